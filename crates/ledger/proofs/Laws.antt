@@ -1,0 +1,70 @@
+-- What is known of a ledger whose judgement is a total, and which refusals the judgement gives. Assumes nothing.
+use mathlib.Core.Path.{_≡_, refl, sym, ap, _∙_}
+use mathlib.Core.List.{List, [], _∷_}
+use mathlib.Core.Bool.{Bool, true, false}
+use Prim.Native.Nat.{ℕ, zero, suc, _+_, _≤_, _<_}
+use native.Mathlib.Omega.{arith}
+use borrow.Author.Tests.{ltb-false, eqb-true, eqb-false}
+use lib.ListN.{length}
+use lib.Dec.{T, ltb, eqb}
+use Rattle.terms.specs.Outcome.{Outcome, accepted, refused, after}
+use Rattle.terms.specs.Numbers.{pick, sum}
+use Rattle.terms.specs.Limits.{mostLines, mostValue, mostTotal}
+use Rattle.terms.proofs.Outcomes.{never, after-accepted, among, Gives, gives-after}
+use Rattle.terms.proofs.Tests.{by-test}
+use Rattle.ledger.specs.Ledger.{linesFrom, linesOf, someTotal, ledgerOf}
+
+-- a total of the lines is their sum, within its limit
+lines-total : (l : List ℕ) (line running t : ℕ) → running ≤ mostTotal → linesFrom line running l ≡ accepted t → (t ≡ running + sum l) × (t ≤ mostTotal)
+unfolding linesFrom
+lines-total [] line running t h e = let q : running ≡ t = cc in omega arith
+lines-total (v ∷ l) line running t h e =
+    let later = lines-total l (suc line) (running + v) t in
+    by-test (λ o. o ≡ accepted t → (t ≡ running + (v + sum l)) × (t ≤ mostTotal)) (ltb mostValue v) (λ p e. never e)
+    (λ p. by-test (λ o. o ≡ accepted t → (t ≡ running + (v + sum l)) × (t ≤ mostTotal)) (ltb mostTotal (running + v)) (λ q e. never e)
+    (λ q f. let r = later (ltb-false _ _ q) f in omega arith)) e
+
+-- what an accepted ledger gives
+pub record Good (ledger : List ℕ) (beside total : ℕ) : Type 0 where
+  pub few : length ledger ≤ mostLines
+  pub same : beside ≡ length ledger
+  pub added : total ≡ sum ledger
+  pub some : 0 < total
+  pub most : total ≤ mostTotal
+
+good-total : (l : List ℕ) (beside t : ℕ) → length l ≤ mostLines → beside ≡ length l → after someTotal (linesOf l) ≡ accepted t → Good l beside t
+unfolding linesOf
+good-total l beside t few same e =
+    let a = after-accepted someTotal (linesFrom 0 0 l) t e in
+    let known = lines-total l 0 0 (a .0) (omega arith) (a .1) in
+    by-test (λ o. o ≡ accepted t → Good l beside t) (eqb (a .0) 0) (λ z f. never f)
+    (λ z f. let q : a .0 ≡ t = cc in
+    let n = eqb-false (a .0) 0 z in
+    record { few = few; same = same; added = omega (arith, known .0); some = omega arith; most = omega (arith, known .1) })
+    (a .2)
+
+pub good : (ledger : List ℕ) (beside total : ℕ) → ledgerOf ledger beside ≡ accepted total → Good ledger beside total
+unfolding ledgerOf
+good l beside t =
+    by-test (λ o. o ≡ accepted t → Good l beside t) (ltb mostLines (length l)) (λ p e. never e)
+    (λ p. by-test (λ o. o ≡ accepted t → Good l beside t) (eqb beside (length l))
+    (λ q e. good-total l beside t (ltb-false _ _ p) (eqb-true _ _ q) e) (λ q e. never e))
+
+-- the refusals that the judgement gives
+abbrev pub ledgerNumbers : List ℕ
+ledgerNumbers = 2 ∷ 13 ∷ 3 ∷ 4 ∷ 5 ∷ []
+
+lines-give : (numbers : List ℕ) → T (among 3 numbers) → T (among 4 numbers) → (line running : ℕ) (l : List ℕ) → Gives numbers (linesFrom line running l)
+unfolding linesFrom
+lines-give numbers three four line running [] = tt
+lines-give numbers three four line running (v ∷ l) =
+    by-test (Gives numbers) (ltb mostValue v) (λ p. three)
+    (λ p. by-test (Gives numbers) (ltb mostTotal (running + v)) (λ q. four) (λ q. lines-give numbers three four (suc line) (running + v) l))
+
+pub ledger-gives : (ledger : List ℕ) (beside : ℕ) → Gives ledgerNumbers (ledgerOf ledger beside)
+unfolding ledgerOf linesOf
+ledger-gives l beside =
+    by-test (Gives ledgerNumbers) (ltb mostLines (length l)) (λ p. tt)
+    (λ p. by-test (Gives ledgerNumbers) (eqb beside (length l))
+    (λ q. gives-after ledgerNumbers someTotal (linesFrom 0 0 l) (lines-give ledgerNumbers tt tt 0 0 l)
+    (λ total. by-test (Gives ledgerNumbers) (eqb total 0) (λ z. tt) (λ z. tt))) (λ q. tt))

@@ -1,0 +1,78 @@
+-- Outcomes: an accepted call is no refused one, what a step that starts with another was accepted from, which refusals it gives,
+-- and that a number and a place name one refusal. Assumes nothing.
+use mathlib.Core.Path.{_≡_, refl, sym, ap, _∙_}
+use mathlib.Core.List.{List, [], _∷_}
+use mathlib.Core.Bool.{Bool, true, false}
+use Prim.Native.Nat.{ℕ, zero, suc}
+use native.Mathlib.Omega.{arith}
+use lib.Dec.{T, eqb}
+use Rattle.terms.specs.declared.Refusal.{Refusal}
+use Rattle.terms.specs.declared.Refusal.the-variants.{UnknownLevel, TooManyLines, ValueTooLarge, TotalTooLarge, TotalZero, ToleranceOutOfRange, ToleranceSpent, NoDraws, DrawsUsedUp, IntervalTooLarge, StartOutOfRange, NoWordPasses, LengthsDiffer, ErrorAboveValue, ErrorNotDrawn, TooManyErrors, FileBreaksRule, RoomTooShort, NoLegalFile}
+use Rattle.terms.specs.Refusals.{number, place}
+use Rattle.terms.specs.Numbers.{pick}
+use Rattle.terms.specs.Outcome.{Outcome, accepted, refused, refusedBy, after}
+
+pub never : {A B : Type 0} {a : A} {n p : ℕ} → refused n p ≡ accepted a → B
+never e = let z : _≡_ {A = ℕ} 0 1 = cc in absurd (omega arith)
+
+-- a step is accepted only where the one that it starts with is
+pub after-accepted : {A B : Type 0} (next : A → Outcome B) (o : Outcome A) (b : B) → after next o ≡ accepted b → (a : A) × (o ≡ accepted a) × (next a ≡ accepted b)
+after-accepted next (accepted a) b e = (a, refl, e)
+after-accepted next (refused n p) b e = never e
+
+-- the outcome is accepted, or refused by one of these numbers
+abbrev pub among : ℕ → List ℕ → Bool
+among n [] = false
+among n (m ∷ ms) = pick (eqb n m) true (among n ms)
+
+abbrev pub Gives : {A : Type 0} → List ℕ → Outcome A → Type 0
+Gives numbers (accepted a) = Unit
+Gives numbers (refused n p) = T (among n numbers)
+
+-- a step that starts with another gives what either gives
+pub gives-after : {A B : Type 0} (numbers : List ℕ) (next : A → Outcome B) (o : Outcome A) → Gives numbers o → ((a : A) → Gives numbers (next a)) → Gives numbers (after next o)
+gives-after numbers next (accepted a) g h = h a
+gives-after numbers next (refused n p) g h = g
+
+-- the refusals in the order of their numbers, each at place p
+listed : ℕ → List Refusal
+listed p =
+    NoLegalFile ∷ UnknownLevel ∷ TooManyLines ∷ ValueTooLarge p ∷ TotalTooLarge p ∷ TotalZero ∷ ToleranceOutOfRange ∷ ToleranceSpent ∷ NoDraws ∷ DrawsUsedUp ∷ IntervalTooLarge ∷ StartOutOfRange ∷ NoWordPasses p ∷ LengthsDiffer ∷ ErrorAboveValue p ∷ ErrorNotDrawn p ∷ TooManyErrors ∷ FileBreaksRule p ∷ RoomTooShort p ∷ NoLegalFile ∷ []
+
+entry : List Refusal → ℕ → Refusal
+entry [] k = NoLegalFile
+entry (r ∷ l) zero = r
+entry (r ∷ l) (suc k) = entry l k
+
+-- a refusal is found again by its number and its place
+found : (r : Refusal) → entry (listed (place r)) (number r) ≡ r
+unfolding entry listed
+found UnknownLevel = refl
+found TooManyLines = refl
+found (ValueTooLarge line) = refl
+found (TotalTooLarge line) = refl
+found TotalZero = refl
+found ToleranceOutOfRange = refl
+found ToleranceSpent = refl
+found NoDraws = refl
+found DrawsUsedUp = refl
+found IntervalTooLarge = refl
+found StartOutOfRange = refl
+found (NoWordPasses words) = refl
+found LengthsDiffer = refl
+found (ErrorAboveValue line) = refl
+found (ErrorNotDrawn line) = refl
+found TooManyErrors = refl
+found (FileBreaksRule byte) = refl
+found (RoomTooShort needed) = refl
+found NoLegalFile = refl
+
+-- so no two refusals share both
+pub one-refusal : (r s : Refusal) → number r ≡ number s → place r ≡ place s → r ≡ s
+one-refusal r s n p = sym (found r) ∙ (λ i. entry (listed (p i)) (n i)) ∙ found s
+
+pub refused-once : {A : Type 0} (r s : Refusal) → refusedBy {A = A} r ≡ refusedBy s → r ≡ s
+refused-once r s e =
+    let n : number r ≡ number s = cc in
+    let p : place r ≡ place s = cc in
+    one-refusal r s n p

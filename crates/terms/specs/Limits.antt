@@ -1,0 +1,17 @@
+-- The sizes of document 01. These are definitions: nothing is assumed.
+use Prim.Native.Nat.{ℕ}
+
+abbrev pub mostLines : ℕ
+mostLines = 1000000
+
+abbrev pub mostValue : ℕ
+mostValue = 10000000000000
+
+abbrev pub mostTotal : ℕ
+mostTotal = 1000000000000000
+
+abbrev pub mostInterval : ℕ
+mostInterval = 4000000000
+
+abbrev pub mostErrors : ℕ
+mostErrors = 63

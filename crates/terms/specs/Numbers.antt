@@ -1,0 +1,18 @@
+-- A choice by a test, division rounded up, and the sum of a list. These are definitions: nothing is assumed.
+use Prim.Native.Nat.{ℕ, _+_, _-_, _/_}
+use mathlib.Core.Bool.{Bool, true, false}
+use mathlib.Core.List.{List, [], _∷_}
+
+-- the first where the test passes, and else the second
+abbrev pub pick : {A : Type 0} → Bool → A → A → A
+pick true a b = a
+pick false a b = b
+
+-- a / b, rounded up
+unfoldable pub divUp : ℕ → ℕ → ℕ
+divUp a b = (a + (b - 1)) / b
+
+-- all numbers of a list, added
+abbrev pub sum : List ℕ → ℕ
+sum [] = 0
+sum (v ∷ l) = v + sum l

@@ -65,15 +65,15 @@ named-only p l =
     other p l P99 (other p l P95 (other p l P90 (other p l P85 (other p l P80 (other p l P75 (other p l P70 (other p l P60 (other p l P50 never))))))))
 
 -- any other percent is refused, by 1
-or-level : {numbers : List ℕ} (test : Bool) (l : Level) {o : Outcome Level} → Gives numbers o → Gives numbers (pick test (accepted l) o)
-or-level true l g = tt
-or-level false l g = g
+or-level : (test : Bool) (l : Level) (o : Outcome Level) → Gives (1 ∷ []) o → Gives (1 ∷ []) (pick test (accepted l) o)
+or-level true l o g = tt
+or-level false l o g = g
 
 pub level-gives : (p : ℕ) → Gives (1 ∷ []) (levelOf p)
 unfolding levelOf
 level-gives p =
-    or-level (eqb p 99) P99 (or-level (eqb p 95) P95 (or-level (eqb p 90) P90 (or-level (eqb p 85) P85 (or-level (eqb p 80) P80
-    (or-level (eqb p 75) P75 (or-level (eqb p 70) P70 (or-level (eqb p 60) P60 (or-level (eqb p 50) P50 tt))))))))
+    or-level (eqb p 99) P99 _ (or-level (eqb p 95) P95 _ (or-level (eqb p 90) P90 _ (or-level (eqb p 85) P85 _ (or-level (eqb p 80) P80 _
+    (or-level (eqb p 75) P75 _ (or-level (eqb p 70) P70 _ (or-level (eqb p 60) P60 _ (or-level (eqb p 50) P50 (refused 1 0) tt))))))))
 
 -- the largest expansion factor is 190
 pub ef-top : (l : Level) → ef l ≤ 190

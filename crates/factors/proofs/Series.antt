@@ -3,7 +3,7 @@
 use mathlib.Core.Path.{_≡_, refl, sym, ap, ap₂, _∙_, subst, subst₂}
 use mathlib.Core.Bool.{Bool}
 use Prim.Native.Nat.{ℕ, zero, suc, _+_, _-_, _*_, _/_, _^_, _≤_, _<_}
-use native.Mathlib.Nat.{add-zero, add-suc, add-mul, mul-comm, mul-assoc, mul-right-comm, mul-left-comm, mul-mul-mul-comm, mul-pos, mul-one, zero-mul, pow-zero, pow-suc, le-refl, le-trans, le-of-eq, le-add-right, mul-le-mul-left, mul-le-mul-right, le-of-mul-le-mul-right, eq-of-mul-eq-mul-right, add-sub-of-le}
+use native.Mathlib.Nat.{add-zero, add-suc, add-mul, mul-comm, mul-assoc, mul-right-comm, mul-left-comm, mul-mul-mul-comm, mul-pos, zero-mul, pow-zero, pow-suc, le-refl, le-trans, le-of-eq, le-add-right, mul-le-mul-left, mul-le-mul-right, le-of-mul-le-mul-right, eq-of-mul-eq-mul-right, add-sub-of-le}
 use native.Mathlib.Omega.{arith}
 use lib.Dec.{T, eqb, eqb→eq, lit<}
 use Rattle.terms.proofs.Every.{below, below-at}
@@ -137,7 +137,7 @@ low-above F n l = subst (λ (m : ℕ). terms F n ≤ terms F m) (add-sub-of-le l
 
 high-bound : (F : ℕ) → bound F 255 ≡ high F
 unfolding high weight scale fact
-high-bound F = sym (mul-one (bound F 255)) ∙ bound-terms F 255 (lit< tt)
+high-bound F = omega (arith, bound-terms F 255 (lit< tt))
 
 pub high-below : (F n : ℕ) → n ≤ 255 → 2 * F ≤ 100 * suc (suc n) → high F ≤ terms F n + 2 * term F (suc n)
 high-below F n l h =

@@ -6,7 +6,7 @@ use native.Mathlib.Nat.{add-zero}
 use native.Mathlib.Omega.{arith}
 use lib.Dec.{lit≤}
 use lib.IntN.{ℤ, pos, subℕ, _+ℤ_, _-ℤ_}
-use borrow.Author.Tests.{lt-ltb, le-ltb, ne-eqb}
+use borrow.Author.Tests.{lt-ltb, le-ltb}
 use Rattle.terms.proofs.Tests.{le-or-lt}
 use Rattle.terms.proofs.Differences.{minus, sub-add, sub-ge}
 use Rattle.factors.specs.declared.Level.{Level}
@@ -20,6 +20,18 @@ less-hundred a b = ap (λ (z : ℤ). z -ℤ pos 100) (minus a b) ∙ sub-add a b
 pub step-is : (l : Level) (k : ℕ) → suc k < 64 → stepOf l (suc k) ≡ subℕ (rf l (suc k)) (rf l k + 100)
 unfolding stepOf
 step-is l k h = simp (lt-ltb (suc k) 64 h) (less-hundred (rf l (suc k)) (rf l k))
+
+-- the same, as code has it
+pub step-at : (l : Level) (k : ℕ) → (k ≡ 0 → ⊥) → k < 64 → stepOf l k ≡ (pos (rf l k) -ℤ pos (rf l (k - 1))) -ℤ pos 100
+unfolding stepOf
+step-at l zero n h = absurd (n refl)
+step-at l (suc k) n h =
+    let former : k ≡ suc k - 1 = omega arith in
+    simp (lt-ltb (suc k) 64 h) (ap (λ (m : ℕ). (pos (rf l (suc k)) -ℤ pos (rf l m)) -ℤ pos 100) former)
+
+pub step-none : (l : Level) (k : ℕ) → k ≡ 0 → stepOf l k ≡ pos 0
+unfolding stepOf
+step-none l k e = ap (stepOf l) e
 
 pub step-past : (l : Level) (k : ℕ) → 64 ≤ k → stepOf l k ≡ pos 0
 unfolding stepOf

@@ -1,7 +1,7 @@
 -- RF, the reliability factors, and the steps between them, in hundredths. These are definitions: nothing is assumed.
 use mathlib.Core.Path.{_≡_}
-use Prim.Native.Nat.{ℕ, _+_, _-_, _*_, _<_}
-use lib.Dec.{ltb, eqb}
+use Prim.Native.Nat.{ℕ, zero, suc, _+_, _*_, _<_}
+use lib.Dec.{ltb}
 use lib.IntN.{ℤ, pos, _-ℤ_}
 use lib.ListN.{getD}
 use Rattle.terms.specs.Numbers.{pick}
@@ -21,5 +21,5 @@ pub record Reliability (level : Level) (k r : ℕ) : Type 0 where
 
 -- the k-th step, RF(k) - RF(k - 1) - 100, for k from 1 to 63, and else 0
 unfoldable pub stepOf : Level → ℕ → ℤ
-stepOf level k =
-    pick (eqb k 0) (pos 0) (pick (ltb k 64) ((pos (rf level k) -ℤ pos (rf level (k - 1))) -ℤ pos 100) (pos 0))
+stepOf level zero = pos 0
+stepOf level (suc k) = pick (ltb (suc k) 64) ((pos (rf level (suc k)) -ℤ pos (rf level k)) -ℤ pos 100) (pos 0)

@@ -3,17 +3,17 @@ use mathlib.Core.Path.{_≡_, refl, ap}
 use Prim.Native.Nat.{ℕ, _+_, _-_, _*_, _≤_, _<_}
 use native.Mathlib.Nat.{mul-le-mul}
 use native.Mathlib.Omega.{arith}
+use lib.Dec.{leb}
 use borrow.Author.Tests.{le-ltb, lt-ltb, le-leb, lt-leb, eq-eqb, ne-eqb}
 use Rattle.terms.specs.Outcome.{Outcome, accepted, refused}
 use Rattle.terms.specs.Numbers.{pick, divUp}
 use Rattle.terms.specs.Limits.{mostTotal}
 use Rattle.factors.specs.declared.Level.{Level}
 use Rattle.factors.specs.Levels.{ef}
-use Rattle.factors.specs.Factors.{rf}
+use Rattle.factors.specs.Factors.{rf, Reliability}
 use Rattle.factors.proofs.Percents.{ef-top}
 use Rattle.factors.proofs.Shape.{rf-top}
 use Rattle.size.specs.Size.{sizeAt}
-use lib.Dec.{leb}
 
 module _ (total te ae : ℕ) (l : Level) where
   pub total-too-large : mostTotal < total → refused 4 0 ≡ sizeAt total te ae l
@@ -50,8 +50,8 @@ module _ {total te ae : ℕ} {l : Level} (at : InRange total te ae l) where
   pub anticipated-fits : {f : ℕ} → f ≡ ef l → ae * f ≤ 190000000000000000
   anticipated-fits {f} e = mul-le-mul {n₁ = ae} {m₁ = f} {n₂ = 1000000000000000} {m₂ = 190} (omega arith) (omega (arith, ef-top l))
 
-  pub wanted-fits : {f : ℕ} → f ≡ rf l 0 → total * f ≤ 8407000000000000000
-  wanted-fits {f} e = mul-le-mul {n₁ = total} {m₁ = f} {n₂ = 1000000000000000} {m₂ = 8407} (omega arith) (omega (arith, rf-top l 0))
+  pub wanted-fits : {k f : ℕ} → Reliability l k f → total * f ≤ 8407000000000000000
+  wanted-fits {k} {f} r = mul-le-mul {n₁ = total} {m₁ = f} {n₂ = 1000000000000000} {m₂ = 8407} (omega arith) (omega (arith, rf-top l k))
 
   at-seven : sizeAt total te ae l ≡ pick (leb (100 * te) (ae * ef l)) (refused 7 0) (accepted (divUp (total * rf l 0) (100 * te - ae * ef l)))
   unfolding sizeAt
@@ -67,5 +67,5 @@ module _ {total te ae : ℕ} {l : Level} (at : InRange total te ae l) where
   pub spent : {f : ℕ} → f ≡ ef l → 100 * te ≤ ae * f → refused 7 0 ≡ sizeAt total te ae l
   spent {f} e h = rw (at-seven, ← e, le-leb (100 * te) (ae * f) h)
 
-  pub answered : {f g : ℕ} → f ≡ ef l → g ≡ rf l 0 → ae * f < 100 * te → accepted (divUp (total * g) (100 * te - ae * f)) ≡ sizeAt total te ae l
-  answered {f} {g} e k h = rw (at-seven, ← e, ← k, lt-leb (100 * te) (ae * f) h)
+  pub answered : {f g : ℕ} → f ≡ ef l → Reliability l 0 g → ae * f < 100 * te → accepted (divUp (total * g) (100 * te - ae * f)) ≡ sizeAt total te ae l
+  answered {f} {g} e r h = rw (at-seven, ← e, ← r .value, lt-leb (100 * te) (ae * f) h)

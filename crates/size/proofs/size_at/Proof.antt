@@ -38,7 +38,7 @@ mul-anticipated : tie.Need-mul-anticipated
 mul-anticipated c = omega (arith, anticipated-fits (in-range c) (c .expansion .ensures))
 
 returns-6 : tie.Need-returns-6
-returns-6 c = spent (in-range (c .before)) (c .before .expansion .ensures) (c .if6 .taken)
+returns-6 c = spent (in-range (c .before)) (c .before .expansion .ensures) (omega arith)
 
 sub-spare : tie.Need-sub-spare
 sub-spare c = search needs
@@ -47,13 +47,13 @@ reliability-requires : tie.Need-reliability-requires
 reliability-requires c κs = search needs
 
 mul-wanted : tie.Need-mul-wanted
-mul-wanted c = omega (arith, wanted-fits (in-range (c .before .before)) (c .reliability .ensures .value))
+mul-wanted c = omega (arith, wanted-fits (in-range (c .before .before)) (c .reliability .ensures))
 
 sub-upwards : tie.Need-sub-upwards
 sub-upwards c = search needs
 
 add-draws : tie.Need-add-draws
-add-draws c = omega (arith, wanted-fits (in-range (c .before .before)) (c .reliability .ensures .value))
+add-draws c = omega (arith, wanted-fits (in-range (c .before .before)) (c .reliability .ensures))
 
 div-draws : tie.Need-div-draws
 div-draws c = search needs
@@ -61,7 +61,7 @@ div-draws c = search needs
 returns-7 : tie.Need-returns-7
 unfolding divUp
 returns-7 c =
-    answered (in-range (c .before .before)) (c .before .before .expansion .ensures) (c .reliability .ensures .value) (c .before .if6 .left)
+    answered (in-range (c .before .before)) (c .before .before .expansion .ensures) (c .reliability .ensures) (omega arith)
 
 pub size-at-spec : {M : Type 1} → statement M
 size-at-spec =

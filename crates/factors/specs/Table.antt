@@ -1,5 +1,5 @@
--- The table: nine rows, one for each level, of the factors RF(0) to RF(63) in hundredths. src/table.rt holds the same numbers;
--- tools/factors writes both files. It is a definition: nothing is assumed.
+-- The table: nine rows, levels 99 to 50, of sixty-four factors in hundredths, one row after the other.
+-- These are definitions: nothing is assumed. Made by tools/factors, as is src/table.rt: neither is edited by hand.
 use Prim.Native.Nat.{ℕ}
 use mathlib.Core.List.{List, [], _∷_}
 

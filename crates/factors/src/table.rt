@@ -1,5 +1,5 @@
-// The reliability factors in hundredths: nine rows, one for each level, of the factors RF(0) to RF(63).
-// specs/Table.antt holds the same numbers; tools/factors writes both files.
+// The reliability factors in hundredths: nine rows, levels 99 to 50, of sixty-four, RF(0) to RF(63).
+// Made by tools/factors, as is specs/Table.antt: neither is edited by hand.
 pub const FACTORS: [u64; 576] = [
     461,
     664,

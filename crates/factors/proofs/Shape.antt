@@ -1,9 +1,8 @@
 -- Facts of the factors that callers cite, each one test that is computed over the table. Assumes nothing.
-use mathlib.Core.Path.{_≡_, refl, sym, ap, _∙_, subst, subst₂}
-use mathlib.Core.Bool.{Bool, true, false}
+use mathlib.Core.Path.{_≡_, sym, ap, _∙_, subst, subst₂}
+use mathlib.Core.Bool.{Bool, true}
 use mathlib.Core.Logic.{⊎-elim}
-use mathlib.Core.List.{List, [], _∷_}
-use Prim.Native.Nat.{ℕ, zero, suc, _+_, _-_, _*_, _/_, _%_, _≤_, _<_}
+use Prim.Native.Nat.{ℕ, zero, suc, _+_, _-_, _*_, _≤_, _<_}
 use native.Mathlib.Nat.{add-suc, add-zero, add-assoc, suc-mul, le-trans, le-of-eq}
 use native.Mathlib.Omega.{arith}
 use lib.Dec.{T, leb, ltb, leb→le}
@@ -11,7 +10,7 @@ use lib.ListN.{getD}
 use borrow.Author.Tests.{lt-ltb, le-leb}
 use Rattle.terms.specs.Numbers.{pick}
 use Rattle.terms.proofs.Tests.{le-or-lt}
-use Rattle.terms.proofs.Every.{both, both-left, both-right, every, at, below, below-at}
+use Rattle.terms.proofs.Every.{both, both-left, both-right, at, below, below-at}
 use Rattle.factors.specs.declared.Level.{Level}
 use Rattle.factors.specs.Levels.{percentOf, rowOf}
 use Rattle.factors.specs.Rule.{AtMostBy}

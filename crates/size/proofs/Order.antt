@@ -1,11 +1,11 @@
 -- The cases of `sizeAt`, as `size_at` meets them, and that its products fit 64 bits. Assumes nothing.
-use mathlib.Core.Path.{_≡_, refl, ap}
-use Prim.Native.Nat.{ℕ, _+_, _-_, _*_, _≤_, _<_}
+use mathlib.Core.Path.{_≡_}
+use Prim.Native.Nat.{ℕ, _-_, _*_, _≤_, _<_}
 use native.Mathlib.Nat.{mul-le-mul}
 use native.Mathlib.Omega.{arith}
 use lib.Dec.{leb}
 use borrow.Author.Tests.{le-ltb, lt-ltb, le-leb, lt-leb, eq-eqb, ne-eqb}
-use Rattle.terms.specs.Outcome.{Outcome, accepted, refused}
+use Rattle.terms.specs.Outcome.{accepted, refused}
 use Rattle.terms.specs.Numbers.{pick, divUp}
 use Rattle.terms.specs.Limits.{mostTotal}
 use Rattle.factors.specs.declared.Level.{Level}

@@ -1,5 +1,5 @@
 -- `size::size` meets its contract: the level's refusal, or what `size_at` answers at it. Assumes nothing.
-use mathlib.Core.Path.{_≡_, sym, ap, _∙_}
+use mathlib.Core.Path.{sym, ap, _∙_}
 use borrow.Author.Needs.{needs}
 use Rattle.terms.specs.Outcome.{after}
 use Rattle.factors.specs.Levels.{levelSays}

@@ -66,12 +66,12 @@ def generated_ledger(r, count, most, changes=()):
 
 
 def legal_ledger(r):
-    """A ledger with its expansion, not all 0."""
+    """A ledger and its values, not all 0."""
     while True:
-        given = random_ledger(r)
-        ledger = given.expand()
-        if sum(ledger) > 0:
-            return given, ledger
+        ledger = random_ledger(r)
+        values = ledger.expand()
+        if sum(values) > 0:
+            return ledger, values
 
 
 def random_draws(r, ledger):

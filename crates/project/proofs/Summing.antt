@@ -1,5 +1,5 @@
 -- The projection's loop: its sums are those of the lines that it has passed. Assumes nothing.
-use Prim.Native.Nat.{ℕ, _+_, _^_, _≤_, _<_}
+use Prim.Native.Nat.{ℕ, _+_, _≤_, _<_}
 use native.Mathlib.Omega.{arith}
 use mathlib.Core.Path.{_≡_, refl, sym, ap, _∙_}
 use mathlib.Core.List.{List, [], _∷_, _++_}
@@ -10,7 +10,7 @@ use Rattle.draw.proofs.Row.{row-sum}
 use Rattle.project.specs.declared.Line.{Line}
 use Rattle.project.specs.declared.Projection.{Projection}
 use Rattle.project.specs.Lines.{fullPart, sampledPart, countPart, total, projectionOf}
-use Rattle.project.specs.Walk.{lineAt, addedTo}
+use Rattle.project.specs.Walk.{lineAt, addedTo, Fits}
 use Rattle.project.specs.Project.{checkedLine, checkedLines, projectionAt, Ready}
 use Rattle.project.proofs.Passing.{Passed, passed-none, passed-refused, passed-more, passed-end, total-more}
 
@@ -41,14 +41,14 @@ module _ (J start : ℕ) (ledger errors : List ℕ) (sums : Projection) (next it
       added-now = ap (λ (s : Projection). addedTo s k) (by .summed) ∙ added-more (by .passed) k
 
       -- what is added fits
-      pub summing-fits : Ready J start ledger errors → (addedTo sums k .full < 2 ^ 64) × (addedTo sums k .sampled < 2 ^ 64) × (addedTo sums k .m < 2 ^ 64)
+      pub summing-fits : Ready J start ledger errors → Fits sums k
       summing-fits ready =
           let e = added-now in
-          (
-            omega (arith, ap (λ (s : Projection). s .full) e, further .full-room, ready .summed),
-            omega (arith, ap (λ (s : Projection). s .sampled) e, further .sampled-room, further .close, ready .narrow, ready .summed, row-sum J ledger),
-            omega (arith, ap (λ (s : Projection). s .m) e, further .few, ready .few),
-          )
+          record {
+            full = omega (arith, ap (λ (s : Projection). s .full) e, further .full-room, ready .summed);
+            sampled = omega (arith, ap (λ (s : Projection). s .sampled) e, further .sampled-room, further .close, ready .narrow, ready .summed, row-sum J ledger);
+            m = omega (arith, ap (λ (s : Projection). s .m) e, further .few, ready .few);
+          }
 
       pub summing-more : (sums′ : Projection) (next′ : ℕ) → sums′ ≡ addedTo sums k → next′ ≡ stepOf J next (getD ledger item 0) → Summing J start ledger errors sums′ next′ (item + 1)
       summing-more sums′ next′ s t = rw t (record { passed = by .passed ++ (k ∷ []); at = further; summed = s ∙ added-now })

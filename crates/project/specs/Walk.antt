@@ -1,6 +1,6 @@
 -- The lines as the code goes, by the distance from a line's first cent to the next drawing point. No promise of an operation names these:
 -- proofs/Walk.antt carries them to the row. These are definitions: nothing is assumed.
-use Prim.Native.Nat.{ℕ, _+_}
+use Prim.Native.Nat.{ℕ, _+_, _^_, _<_}
 use mathlib.Core.List.{List, [], _∷_}
 use lib.Dec.{ltb}
 use lib.ListN.{getD, drop}
@@ -26,3 +26,9 @@ addedTo sums line =
       sampled = sums .sampled + sampledPart (line .state) (line .error);
       m = sums .m + countPart (line .state) (line .error);
     }
+
+-- the sums with a line added stay within 64 bits
+pub record Fits (sums : Projection) (line : Line) : Type 0 where
+  pub full : addedTo sums line .full < 2 ^ 64
+  pub sampled : addedTo sums line .sampled < 2 ^ 64
+  pub m : addedTo sums line .m < 2 ^ 64

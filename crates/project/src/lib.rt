@@ -2,10 +2,10 @@
 use terms::Item;
 use terms::Refusal;
 ghost use mathlib.Core.Path.{_≡_};
-ghost use Prim.Native.Nat.{_^_, _<_, _≤_};
+ghost use Prim.Native.Nat.{_<_, _≤_};
 ghost use Rattle.terms.specs.Limits.{mostInterval};
 ghost use Rattle.project.specs.Lines.{amount};
-ghost use Rattle.project.specs.Walk.{lineAt, addedTo};
+ghost use Rattle.project.specs.Walk.{lineAt, addedTo, Fits};
 ghost use Rattle.project.specs.Project.{lineSays, projectSays, checkedLine, projectionAt, Ready};
 
 // What a line ends as; a drawn line carries its projected amount.
@@ -103,9 +103,7 @@ pub fn checked_line(item: Item, value: u64, error: u64, interval: u64, next: u64
 
 // The sums with one line added.
 pub fn added(sums: Projection, line: Line) -> Projection
-    requires { ⌜ addedTo sums line .full < 2 ^ 64 ⌝ }
-    requires { ⌜ addedTo sums line .sampled < 2 ^ 64 ⌝ }
-    requires { ⌜ addedTo sums line .m < 2 ^ 64 ⌝ }
+    requires { ⌜ Fits sums line ⌝ }
     ensures { λ r. ⌜ r ≡ addedTo sums line ⌝ }
 {
     let state = line.state;

@@ -3,3 +3,5 @@ pub mod Points
 pub mod Walk
 pub mod Row
 pub mod Marking
+pub mod Answer
+pub mod Laws

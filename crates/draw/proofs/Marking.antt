@@ -13,7 +13,7 @@ use lib.ListN.{length, getD, take, drop, set, length-set, length-map, drop-of-le
 use lib.Seq.{drop-cons, take-suc, take-suc-set, drop-set-lt, append-snoc, take-all}
 use Rattle.terms.specs.Numbers.{pick, sum}
 use Rattle.terms.proofs.Tests.{le-or-lt}
-use Rattle.draw.specs.Temp.{fullMark, fullMarks}
+use Rattle.split.specs.Split.{fullMark, fullMarks}
 use Rattle.draw.specs.Row.{full, cents, rowCents, firstCent, itemAt, markBy, drawMarks, ones}
 use Rattle.draw.specs.Walk.{stepBy, stepOf, marksWalk}
 use Rattle.draw.proofs.Walk.{marks-walked}

@@ -1,15 +1,25 @@
 // The draw: step 4, and the walk along the row that the projection shares.
+use split::SplitAnswer;
 use terms::Cent;
 use terms::Item;
+use terms::Refusal;
 ghost use mathlib.Core.Path.{_≡_};
 ghost use Prim.Native.Nat.{_≤_};
 ghost use lib.ListN.{length};
 ghost use Rattle.terms.specs.Numbers.{sum};
 ghost use Rattle.terms.specs.Limits.{mostTotal};
-ghost use Rattle.draw.specs.Temp.{fullMarks};
+ghost use Rattle.terms.specs.Outcome.{left};
+ghost use Rattle.split.specs.Split.{splitSays, fullMarks};
 ghost use Rattle.draw.specs.Row.{cents, drawMarks, ones};
+ghost use Rattle.draw.specs.Draw.{drawSays, figuresFor, marksAt, drawOf};
 ghost use Rattle.draw.specs.Found.{Before, Found};
 ghost use Rattle.draw.specs.Walk.{stepOf};
+
+// How many lines are drawn, or the first refusal.
+pub enum DrawAnswer {
+    Drawn(u64),
+    Refused(Refusal),
+}
 
 // How far the next drawing point lies from the line after this one, where it lies `next` cents from this one's first cent.
 pub fn step_over(value: u64, interval: u64, next: u64) -> u64
@@ -92,4 +102,40 @@ fn mark_drawn(ledger: &[u64], interval: u64, start: u64, marks: &mut [u8]) -> u6
         point = Cent(further);
     }
     drawn
+}
+
+// The split's figures, or 11 where the start does not fit their interval: what the draw and the projection start from. `beside`
+// is the length of the buffer that is lent with the ledger.
+pub fn figures_for(ledger: &[u64], n: u64, start: u64, beside: usize) -> SplitAnswer
+    ensures { λ r. ⌜ splitSays r ≡ figuresFor (now (ledger .entry)) n start beside ⌝ }
+{
+    match split::split_figures(ledger, n, beside) {
+        SplitAnswer::Refused(why) => SplitAnswer::Refused(why),
+        SplitAnswer::Split(figures) => {
+            if start < figures.interval {
+                return SplitAnswer::Split(figures);
+            }
+            if start > 0 {
+                return SplitAnswer::Refused(Refusal::StartOutOfRange);
+            }
+            SplitAnswer::Split(figures)
+        }
+    }
+}
+
+// The draw: how many lines it marks 1, and the marks, which a refusal leaves as they were.
+pub fn draw(ledger: &[u64], n: u64, start: u64, marks: &mut [u8]) -> DrawAnswer
+    ensures answer { λ r. ⌜ drawSays r ≡ drawOf (now (ledger .entry)) n start (length (now (marks .entry))) ⌝ }
+    ensures marked { λ r. ⌜ now (marks .exit)
+        ≡ left (marksAt (now (ledger .entry)) start) (now (marks .entry)) (figuresFor (now (ledger .entry)) n start (length (now (marks .entry)))) ⌝ }
+{
+    match figures_for(ledger, n, start, marks.len()) {
+        SplitAnswer::Refused(why) => DrawAnswer::Refused(why),
+        SplitAnswer::Split(figures) => {
+            let interval = figures.interval;
+            split::mark_full(ledger, interval, marks);
+            let drawn = mark_drawn(ledger, interval, start, marks);
+            DrawAnswer::Drawn(drawn)
+        }
+    }
 }

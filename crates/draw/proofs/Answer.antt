@@ -1,0 +1,52 @@
+-- From the split's answer to the draw's, as the code meets it. Assumes nothing.
+use mathlib.Core.Path.{_≡_, refl, sym, ap, _∙_}
+use mathlib.Core.List.{List}
+use mathlib.Core.Logic.{⊎-elim}
+use Prim.Native.Nat.{ℕ, zero, suc, _≤_, _<_}
+use native.Mathlib.Nat.{eq-zero-or-pos}
+use native.Mathlib.Omega.{arith}
+use borrow.Author.Tests.{lt-ltb, le-ltb, eq-eqb, ne-eqb}
+use Rattle.terms.specs.Outcome.{Outcome, accepted, refused, after}
+use Rattle.split.specs.declared.Figures.{Figures}
+use Rattle.split.specs.Split.{splitOf}
+use Rattle.draw.specs.Draw.{startFits, startIn, figuresFor, marksAt, drawOf}
+use Rattle.draw.specs.Row.{drawMarks, ones}
+
+-- a refusal of the split is given on
+pub from-split : (ledger : List ℕ) (n start beside : ℕ) {k p : ℕ} → refused k p ≡ splitOf ledger n beside → refused k p ≡ figuresFor ledger n start beside
+unfolding figuresFor
+from-split ledger n start beside e = ap (after (startIn start)) e
+
+module _ (ledger : List ℕ) (n start beside : ℕ) (f : Figures) (split : accepted f ≡ splitOf ledger n beside) where
+  goes-on : startIn start f ≡ figuresFor ledger n start beside
+  unfolding figuresFor
+  goes-on = ap (after (startIn start)) split
+
+  pub start-below : start < f .interval → accepted f ≡ figuresFor ledger n start beside
+  start-below h =
+      let some : f .interval ≡ 0 → ⊥ = λ z. omega arith in
+      sym (simp (ne-eqb _ _ some, lt-ltb _ _ h)) ∙ goes-on
+
+  pub start-none : f .interval ≤ start → start ≤ 0 → accepted f ≡ figuresFor ledger n start beside
+  start-none h l =
+      let none : f .interval ≡ 0 = omega arith in
+      let first : start ≡ 0 = omega arith in
+      sym (simp (eq-eqb _ _ none, eq-eqb _ _ first)) ∙ goes-on
+
+  pub start-outside : f .interval ≤ start → 0 < start → refused 11 0 ≡ figuresFor ledger n start beside
+  start-outside h l =
+      let late : start ≡ 0 → ⊥ = λ z. omega arith in
+      ⊎-elim
+      (λ (z : f .interval ≡ 0). sym (simp (eq-eqb _ _ z, ne-eqb _ _ late)) ∙ goes-on)
+      (λ (s : 0 < f .interval). let some : f .interval ≡ 0 → ⊥ = λ z. omega arith in sym (simp (ne-eqb _ _ some, le-ltb _ _ h)) ∙ goes-on)
+      (eq-zero-or-pos (f .interval))
+
+-- the draw's own answer
+module _ (ledger : List ℕ) (n start beside : ℕ) where
+  pub draw-refused : {k p : ℕ} → refused k p ≡ figuresFor ledger n start beside → refused k p ≡ drawOf ledger n start beside
+  unfolding drawOf
+  draw-refused e = ap (after (λ f. accepted (ones (marksAt ledger start f)))) e
+
+  pub draw-drawn : (f : Figures) (drawn : ℕ) → accepted f ≡ figuresFor ledger n start beside → drawn ≡ ones (drawMarks (f .interval) start ledger) → accepted drawn ≡ drawOf ledger n start beside
+  unfolding drawOf
+  draw-drawn f drawn e d = ap accepted d ∙ ap (after (λ f. accepted (ones (marksAt ledger start f)))) e

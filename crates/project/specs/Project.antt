@@ -1,0 +1,61 @@
+-- Step 5, the projection: its answer for every ledger, number of draws, start and errors. These are definitions: nothing is assumed.
+use Prim.Native.Nat.{ℕ, suc, _≤_}
+use mathlib.Core.Path.{_≡_}
+use mathlib.Core.Bool.{Bool, true, false}
+use mathlib.Core.List.{List, [], _∷_}
+use lib.Dec.{ltb}
+use lib.ListN.{length}
+use Rattle.terms.specs.Outcome.{Outcome, accepted, refused, refusedBy, after}
+use Rattle.terms.specs.Numbers.{pick, sum}
+use Rattle.terms.specs.Limits.{mostLines, mostTotal, mostInterval}
+use Rattle.project.specs.declared.State.{State}
+use Rattle.project.specs.declared.State.the-variants.{NotDrawn, Drawn, Full}
+use Rattle.project.specs.declared.Line.{Line}
+use Rattle.project.specs.declared.LineAnswer.{LineAnswer}
+use Rattle.project.specs.declared.LineAnswer.the-variants as line
+use Rattle.project.specs.declared.Projection.{Projection}
+use Rattle.project.specs.declared.ProjectAnswer.{ProjectAnswer}
+use Rattle.project.specs.declared.ProjectAnswer.the-variants.{Projected, Refused}
+use Rattle.project.specs.Lines.{linesOf, projectionOf}
+
+-- what the answers say
+abbrev pub lineSays : LineAnswer → Outcome Line
+lineSays (line.Known known) = accepted known
+lineSays (line.Refused why) = refusedBy why
+
+abbrev pub projectSays : ProjectAnswer → Outcome Projection
+projectSays (Projected projection) = accepted projection
+projectSays (Refused why) = refusedBy why
+
+-- an error above 0 on a line that is not drawn and not full
+abbrev pub misplaced : State → ℕ → Bool
+misplaced NotDrawn error = ltb 0 error
+misplaced (Drawn projected) error = false
+misplaced Full error = false
+
+-- a line, unless its error breaks a rule: 14 where it exceeds the value, then 15
+unfoldable pub checkedLine : ℕ → Line → Outcome Line
+checkedLine item line =
+    pick (ltb (line .value) (line .error)) (refused 14 item) (pick (misplaced (line .state) (line .error)) (refused 15 item) (accepted line))
+
+-- line by line, from an item's number on
+unfoldable pub checkedFrom : ℕ → List Line → Outcome (List Line)
+checkedFrom item [] = accepted []
+checkedFrom item (line ∷ later) =
+    after (λ good. after (λ rest. accepted (good ∷ rest)) (checkedFrom (suc item) later)) (checkedLine item line)
+
+-- the lines at an interval and a start, none of whose errors breaks a rule
+unfoldable pub checkedLines : ℕ → ℕ → List ℕ → List ℕ → Outcome (List Line)
+checkedLines J start ledger errors = checkedFrom 0 (linesOf J start ledger errors)
+
+-- the projection at an interval and a start
+unfoldable pub projectionAt : ℕ → ℕ → List ℕ → List ℕ → Outcome Projection
+projectionAt J start ledger errors = after (λ lines. accepted (projectionOf lines)) (checkedLines J start ledger errors)
+
+-- what the walk along the lines starts from
+pub record Ready (J start : ℕ) (ledger errors : List ℕ) : Type 0 where
+  pub few : length ledger ≤ mostLines
+  pub same : length errors ≡ length ledger
+  pub narrow : J ≤ mostInterval
+  pub early : start ≤ J
+  pub summed : sum ledger ≤ mostTotal

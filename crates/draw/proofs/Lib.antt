@@ -4,4 +4,6 @@ pub mod Walk
 pub mod Row
 pub mod Marking
 pub mod Answer
+pub mod MoreOutcomes
 pub mod Laws
+pub mod Worked

@@ -1,5 +1,8 @@
 -- What the proofs of several functions use, and what callers cite.
 pub mod Walk
+pub mod Amounts
 pub mod Passing
 pub mod Checking
 pub mod Summing
+pub mod Laws
+pub mod Worked

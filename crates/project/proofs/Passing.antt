@@ -1,21 +1,19 @@
 -- What is known while a loop walks along the lines, checks each and goes on: which lines it has passed, that the whole follows from them and
 -- the rest, and that what they add up to fits. The projection's loop stands on it, and any other over the same walk. Assumes nothing.
 use Prim.Native.Nat.{ℕ, zero, suc, _+_, _*_, _-_, _^_, _≤_, _<_, zero-le}
-use native.Mathlib.Nat.{mul-le-mul-right, mul-comm, zero-mul}
 use native.Mathlib.Omega.{arith}
 use native.Mathlib.Numerals.{add-one}
-use mathlib.Core.Path.{_≡_, refl, sym, ap, _∙_}
+use mathlib.Core.Path.{_≡_, refl, sym, ap, subst, _∙_}
 use mathlib.Core.Bool.{Bool, true, false}
 use mathlib.Core.List.{List, [], _∷_, _++_, append-nil}
 use borrow.Author.Tests.{ltb-true, ltb-false}
 use lib.Dec.{ltb}
 use lib.ListN.{length, getD, drop, drop-of-length-le}
 use lib.Seq.{drop-cons, append-snoc}
-use Rattle.terms.specs.Numbers.{pick, sum, divUp}
+use Rattle.terms.specs.Numbers.{pick, sum}
 use Rattle.terms.specs.Outcome.{Outcome, accepted, refused, after}
 use Rattle.terms.proofs.Outcomes.{never}
 use Rattle.terms.proofs.Tests.{by-test}
-use Rattle.terms.proofs.Rounding.{divUp-least}
 use Rattle.draw.specs.Row.{full, cents, rowCents}
 use Rattle.draw.specs.Walk.{stepBy, stepOf}
 use Rattle.project.specs.declared.State.{State}
@@ -24,16 +22,7 @@ use Rattle.project.specs.Lines.{amount, stateBy, fullPart, sampledPart, 
 use Rattle.project.specs.Walk.{lineAt, linesWalk}
 use Rattle.project.specs.Project.{misplaced, checkedLine, checkedFrom, checkedLines}
 use Rattle.project.proofs.Walk.{lines-walked, walk-on}
-
--- an amount is never above the interval
-pub amount-most : (J v e : ℕ) → 0 < v → e ≤ v → amount J v e ≤ J
-unfolding amount
-amount-most J v e some h = divUp-least J (e * J) v some (omega (arith, mul-le-mul-right J h, mul-comm J v))
-
--- and an error of 0 has the amount 0
-pub amount-none : (J v e : ℕ) → 0 < v → e ≡ 0 → 0 ≡ amount J v e
-unfolding amount
-amount-none J v e some z = let none : divUp (e * J) v ≤ 0 = divUp-least 0 (e * J) v some (rw (z, zero-mul J) zero-le) in omega arith
+use Rattle.project.proofs.Amounts.{amount-most, total-more, Amounts, amounts-none, LineAmounts, line-amounts, amounts-more}
 
 -- what one line gives, by whether it is full and whether the next point is within it
 full-part : (f t : Bool) (a e v : ℕ) → e ≤ v → fullPart (stateBy f t a) e ≤ v
@@ -68,11 +57,6 @@ checked-same item l k =
     (λ p. by-test (λ o. o ≡ accepted k → (l ≡ k) × (l .error ≤ l .value)) (misplaced (l .state) (l .error)) (λ q e. never e)
     (λ q e. (cc, ltb-false _ _ p)))
 
-pub total-more : (part : State → ℕ → ℕ) (ls : List Line) (l : Line) → total part (ls ++ (l ∷ [])) ≡ total part ls + part (l .state) (l .error)
-unfolding total
-total-more part [] l = omega arith
-total-more part (x ∷ ls) l = omega (arith, total-more part ls l)
-
 -- the lines that are passed, before an item from which the next drawing point is `next` cents on
 pub record Passed (J start : ℕ) (ledger errors : List ℕ) (next item : ℕ) (passed : List Line) : Type 0 where
   pub inside : item ≤ length ledger
@@ -81,6 +65,7 @@ pub record Passed (J start : ℕ) (ledger errors : List ℕ) (next item : ℕ) (
   pub full-room : total fullPart passed + sum (drop item ledger) ≤ sum ledger
   pub sampled-room : total sampledPart passed + rowCents J (drop item ledger) ≤ rowCents J ledger + next
   pub few : total countPart passed ≤ item
+  pub amounts : Amounts J passed
 
 same-outcome : (o : Outcome (List Line)) → o ≡ after (λ rest. accepted ([] ++ rest)) o
 same-outcome (accepted a) = refl
@@ -96,6 +81,7 @@ passed-none J start ledger errors h =
       full-room = omega arith;
       sampled-room = omega arith;
       few = zero-le;
+      amounts = amounts-none J;
     }
 
 -- one more line is passed
@@ -136,9 +122,32 @@ module _ (J start : ℕ) (ledger errors : List ℕ) (next item : ℕ) (passed : 
             full-room = omega (arith, total-more fullPart passed k, ap (λ (y : Line). fullPart (y .state) (y .error)) (known .0), full-part f t (amount J v x) x v (known .1), at .full-room);
             sampled-room = omega (arith, total-more sampledPart passed k, ap (λ (y : Line). sampledPart (y .state) (y .error)) (known .0), s .0, at .sampled-room);
             few = omega (arith, total-more countPart passed k, ap (λ (y : Line). countPart (y .state) (y .error)) (known .0), count-part f t (amount J v x) x, at .few);
+            amounts = amounts-more J passed k (at .amounts) (subst (λ (y : Line). LineAmounts J (y .state) (y .error)) (known .0) (line-amounts J next v x (known .1)));
           }
 
   -- after the last line
   pub passed-end : length ledger ≤ item → checkedLines J start ledger errors ≡ accepted passed
   unfolding checkedFrom linesWalk
   passed-end h = at .whole ∙ rw (drop-of-length-le ledger h) (ap accepted (append-nil passed))
+
+-- lines that are accepted are passed, all of them
+to-the-end : (J start : ℕ) (ledger errors : List ℕ) (lines : List Line) → checkedLines J start ledger errors ≡ accepted lines →
+    (m next item : ℕ) (passed : List Line) → length ledger - item ≡ m → Passed J start ledger errors next item passed → (last : ℕ) × Passed J start ledger errors last (length ledger) lines
+to-the-end J start ledger errors lines e zero next item passed z at =
+    let last : item ≡ length ledger = omega (arith, at .inside) in
+    let same : passed ≡ lines = let w : accepted passed ≡ accepted lines = sym (passed-end J start ledger errors next item passed at (omega arith)) ∙ e in cc in
+    (next, rw (← last, ← same) at)
+to-the-end J start ledger errors lines e (suc m) next item passed z at = go (checkedLine item (lineAt J next (getD ledger item 0) (getD errors item 0))) refl
+    (λ next′ passed′ at′. to-the-end J start ledger errors lines e m next′ (item + 1) passed′ (omega arith) at′)
+  where
+    more : item < length ledger
+    more = omega arith
+
+    go : (o : Outcome Line) → o ≡ checkedLine item (lineAt J next (getD ledger item 0) (getD errors item 0)) →
+        ((next′ : ℕ) (passed′ : List Line) → Passed J start ledger errors next′ (item + 1) passed′ → (last : ℕ) × Passed J start ledger errors last (length ledger) lines) →
+        (last : ℕ) × Passed J start ledger errors last (length ledger) lines
+    go (accepted k) q on = on _ _ (passed-more J start ledger errors next item passed at more k q)
+    go (refused n p) q on = never (sym (passed-refused J start ledger errors next item passed at more q) ∙ e)
+
+pub all-passed : (J start : ℕ) (ledger errors : List ℕ) → start ≤ J → (lines : List Line) → checkedLines J start ledger errors ≡ accepted lines → (last : ℕ) × Passed J start ledger errors last (length ledger) lines
+all-passed J start ledger errors early lines e = to-the-end J start ledger errors lines e (length ledger) start 0 [] (omega arith) (passed-none J start ledger errors early)

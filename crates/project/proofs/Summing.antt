@@ -12,7 +12,8 @@ use Rattle.project.specs.declared.Projection.{Projection}
 use Rattle.project.specs.Lines.{fullPart, sampledPart, countPart, total, projectionOf}
 use Rattle.project.specs.Walk.{lineAt, addedTo, Fits}
 use Rattle.project.specs.Project.{checkedLine, checkedLines, projectionAt, Ready}
-use Rattle.project.proofs.Passing.{Passed, passed-none, passed-refused, passed-more, passed-end, total-more}
+use Rattle.project.proofs.Passing.{Passed, passed-none, passed-refused, passed-more, passed-end}
+use Rattle.project.proofs.Amounts.{total-more}
 
 pub record Summing (J start : ℕ) (ledger errors : List ℕ) (sums : Projection) (next item : ℕ) : Type 0 where
   pub passed : List Line

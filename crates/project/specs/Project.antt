@@ -8,6 +8,8 @@ use lib.ListN.{length}
 use Rattle.terms.specs.Outcome.{Outcome, accepted, refused, refusedBy, after}
 use Rattle.terms.specs.Numbers.{pick, sum}
 use Rattle.terms.specs.Limits.{mostLines, mostTotal, mostInterval}
+use Rattle.split.specs.declared.Figures.{Figures}
+use Rattle.draw.specs.Draw.{figuresFor}
 use Rattle.project.specs.declared.State.{State}
 use Rattle.project.specs.declared.State.the-variants.{NotDrawn, Drawn, Full}
 use Rattle.project.specs.declared.Line.{Line}
@@ -51,6 +53,10 @@ checkedLines J start ledger errors = checkedFrom 0 (linesOf J start ledger error
 -- the projection at an interval and a start
 unfoldable pub projectionAt : ℕ → ℕ → List ℕ → List ℕ → Outcome Projection
 projectionAt J start ledger errors = after (λ lines. accepted (projectionOf lines)) (checkedLines J start ledger errors)
+
+-- the projection, after the refusals of the draw: the errors stand beside the ledger
+unfoldable pub projectOf : List ℕ → ℕ → ℕ → List ℕ → Outcome Projection
+projectOf ledger n start errors = after (λ figures. projectionAt (figures .interval) start ledger errors) (figuresFor ledger n start (length errors))
 
 -- what the walk along the lines starts from
 pub record Ready (J start : ℕ) (ledger errors : List ℕ) : Type 0 where

@@ -1,4 +1,5 @@
 // The projection of the errors that were found: step 5.
+use split::SplitAnswer;
 use terms::Item;
 use terms::Refusal;
 ghost use mathlib.Core.Path.{_≡_};
@@ -6,7 +7,7 @@ ghost use Prim.Native.Nat.{_<_, _≤_};
 ghost use Rattle.terms.specs.Limits.{mostInterval};
 ghost use Rattle.project.specs.Lines.{amount};
 ghost use Rattle.project.specs.Walk.{lineAt, addedTo, Fits};
-ghost use Rattle.project.specs.Project.{lineSays, projectSays, checkedLine, projectionAt, Ready};
+ghost use Rattle.project.specs.Project.{lineSays, projectSays, checkedLine, projectionAt, projectOf, Ready};
 
 // What a line ends as; a drawn line carries its projected amount.
 pub enum State {
@@ -161,4 +162,17 @@ fn project_lines(ledger: &[u64], interval: u64, start: u64, errors: &[u64]) -> P
         item += 1;
     }
     ProjectAnswer::Projected(sums)
+}
+
+// The projection of the errors that are entered for a ledger's lines, or the first refusal.
+pub fn project(ledger: &[u64], n: u64, start: u64, errors: &[u64]) -> ProjectAnswer
+    ensures { λ r. ⌜ projectSays r ≡ projectOf (now (ledger .entry)) n start (now (errors .entry)) ⌝ }
+{
+    match draw::figures_for(ledger, n, start, errors.len()) {
+        SplitAnswer::Refused(why) => ProjectAnswer::Refused(why),
+        SplitAnswer::Split(figures) => {
+            let interval = figures.interval;
+            project_lines(ledger, interval, start, errors)
+        }
+    }
 }

@@ -7,7 +7,7 @@ use Prim.Native.Nat.{_≤_, _*_}
 use Rattle.terms.specs.Numbers.{divUp}
 use Rattle.terms.specs.Limits.{mostInterval}
 use Rattle.project.specs.Lines.{amount}
-use Rattle.project.proofs.Passing.{amount-none}
+use Rattle.project.proofs.Amounts.{amount-none}
 use Rattle.project.proofs.amount_of.Statement.{statement}
 use Rattle.project.proofs.amount_of.Tie as tie
 

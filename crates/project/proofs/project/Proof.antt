@@ -1,0 +1,42 @@
+-- `project::project` meets its contract: the draw's refusals, and then the projection at the figures' interval. Assumes nothing.
+use borrow.Author.Needs.{needs}
+use native.Mathlib.Omega.{arith}
+use mathlib.Core.Path.{_≡_, sym, _∙_, ap}
+use Rattle.split.specs.Split.{splitSays}
+use Rattle.draw.proofs.Laws.{StartFacts, start-facts}
+use Rattle.project.proofs.Laws.{ready, project-refused, project-from}
+use Rattle.project.proofs.project.Statement.{statement}
+use Rattle.project.proofs.project.Tie as tie
+
+figures-for-requires : tie.Need-figures-for-requires
+figures-for-requires c κs = search needs
+
+enum-known-why : tie.Need-enum-known-why
+enum-known-why c = search needs
+
+enum-known-figures : tie.Need-enum-known-figures
+enum-known-figures c = search needs
+
+project-lines-requires : tie.Need-project-lines-requires
+project-lines-requires c κs =
+    let at = c .before in
+    ready _ _ _ _ _ (sym (at .before .before .figures-for .ensures) ∙ ap splitSays (at .figures .given .1))
+
+returns : tie.Need-returns
+returns c = project-refused _ _ _ _ (sym (ap splitSays (c .before .why .given .1)) ∙ c .before .before .before .figures-for .ensures)
+
+returns-2 : tie.Need-returns-2
+returns-2 c =
+    let at = c .before .before in
+    c .project-lines .ensures ∙ project-from _ _ _ _ _ (sym (ap splitSays (at .figures .given .1)) ∙ at .before .before .figures-for .ensures)
+
+pub project-spec : {M : Type 1} → statement M
+project-spec =
+    tie.close
+    (tie.spec
+    figures-for-requires
+    enum-known-why
+    enum-known-figures
+    project-lines-requires
+    returns
+    returns-2)

@@ -66,8 +66,3 @@ amountBefore Full error amounts = amounts
 unfoldable pub amountsOf : List Line → List ℕ
 amountsOf [] = []
 amountsOf (line ∷ later) = amountBefore (line .state) (line .error) (amountsOf later)
-
--- none of the amounts is above a bound
-abbrev pub AllUpTo : ℕ → List ℕ → Type 0
-AllUpTo bound [] = Unit
-AllUpTo bound (projected ∷ later) = (projected ≤ bound) × AllUpTo bound later

@@ -1,24 +1,23 @@
 -- Demand 3 holds of every ledger and number of draws that the split accepts with an interval, and of every true error between nothing and
 -- the book value. Assumes nothing.
-use Prim.Native.Nat.{ℕ, _+_, _*_, _/_, _≤_, _<_}
+use Prim.Native.Nat.{ℕ, _/_, _<_}
 use native.Mathlib.Nat.{zero-div, eq-zero-or-pos}
 use native.Mathlib.Omega.{arith}
-use mathlib.Core.Path.{_≡_, refl, sym, ap, _∙_}
+use mathlib.Core.Path.{_≡_, sym, ap, _∙_}
 use mathlib.Core.List.{List, []}
 use mathlib.Core.Logic.{⊎-elim}
 use lib.Dec.{eqb}
 use lib.ListN.{length, getD}
-use Rattle.terms.specs.Outcome.{Outcome, accepted, refused, after, left}
+use Rattle.terms.specs.Outcome.{accepted, after, left}
 use Rattle.split.specs.declared.Figures.{Figures}
 use Rattle.split.specs.Split.{splitOf}
-use Rattle.split.proofs.Facts.{SplitFacts, split-facts}
+use Rattle.split.proofs.Facts.{split-facts}
 use Rattle.draw.specs.Row.{rowCents, marksFrom, drawMarks, ones}
 use Rattle.draw.specs.Draw.{figuresFor, marksAt, drawOf}
 use Rattle.draw.proofs.Laws.{row-sampled, start-accepted}
-use Rattle.project.specs.declared.Projection.{Projection}
-use Rattle.project.specs.Lines.{linesFrom, linesOf, fullPart, sampledPart, total, projectionOf}
+use Rattle.project.specs.Lines.{linesOf, sampledPart, total, projectionOf}
 use Rattle.project.specs.Project.{checkedLines, projectionAt, projectOf}
-use Rattle.demands.specs.Starts.{sumBelow, oneIf, Within, entered, sampledError, fullError}
+use Rattle.demands.specs.Starts.{sumBelow, oneIf, Within, entered}
 use Rattle.demands.specs.Demand3.{marksFor, projectedFor, sampledIn, fullIn, Demand3}
 use Rattle.demands.proofs.Sums.{sum-cong}
 use Rattle.demands.proofs.Fair.{drawn-each, enteredLines, weighted, projected-all, full-all, least-all, most-all, entered-clean, entered-length}

@@ -14,7 +14,6 @@ use Rattle.terms.specs.Outcome.{Outcome, accepted, after}
 use Rattle.terms.proofs.Rounding.{below-divUp, divUp-enough}
 use Rattle.draw.specs.Points.{covers}
 use Rattle.draw.specs.Row.{full, cents, rowCents, markBy, marksFrom}
-use Rattle.project.specs.declared.State.{State}
 use Rattle.project.specs.declared.Line.{Line}
 use Rattle.project.specs.Lines.{amount, stateBy, linesFrom, fullPart, sampledPart, total}
 use Rattle.project.specs.Project.{misplaced, checkedLine, checkedFrom}

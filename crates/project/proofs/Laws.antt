@@ -1,19 +1,19 @@
 -- What is known of an accepted projection, which refusals the projection gives, and that its lines are marked as the draw marks them.
 -- Assumes nothing.
-use mathlib.Core.Path.{_≡_, refl, sym, ap, _∙_}
+use mathlib.Core.Path.{_≡_, refl, ap, _∙_}
 use mathlib.Core.Bool.{Bool, true, false}
 use mathlib.Core.List.{List, [], _∷_, _++_, map}
 use Prim.Native.Nat.{ℕ, suc, _+_, _≤_}
 use native.Mathlib.Omega.{arith}
 use lib.Dec.{ltb}
 use lib.ListN.{length, getD, drop}
-use Rattle.terms.specs.Outcome.{Outcome, accepted, refused, after}
+use Rattle.terms.specs.Outcome.{accepted, refused, after}
 use Rattle.terms.specs.Numbers.{pick, sum}
 use Rattle.terms.proofs.Outcomes.{after-accepted, Gives, gives-after}
 use Rattle.terms.proofs.Tests.{by-test}
 use Rattle.split.specs.declared.Figures.{Figures}
 use Rattle.draw.specs.Points.{covers}
-use Rattle.draw.specs.Row.{full, cents, rowCents, marksFrom, drawMarks}
+use Rattle.draw.specs.Row.{full, cents, marksFrom, drawMarks}
 use Rattle.draw.specs.Draw.{figuresFor}
 use Rattle.draw.proofs.MoreOutcomes.{gives-more}
 use Rattle.draw.proofs.Laws.{StartFacts, start-facts, drawNumbers, figures-give}
@@ -21,10 +21,10 @@ use Rattle.project.specs.declared.State.{State}
 use Rattle.project.specs.declared.State.the-variants.{NotDrawn, Drawn, Full}
 use Rattle.project.specs.declared.Line.{Line}
 use Rattle.project.specs.declared.Projection.{Projection}
-use Rattle.project.specs.Lines.{amount, stateBy, linesFrom, linesOf, fullPart, sampledPart, countPart, total, projectionOf, amountsOf}
+use Rattle.project.specs.Lines.{amount, stateBy, linesFrom, linesOf, projectionOf}
 use Rattle.project.specs.Project.{misplaced, checkedLine, checkedFrom, checkedLines, projectionAt, projectOf, Ready}
 use Rattle.project.proofs.Amounts.{Amounts}
-use Rattle.project.proofs.Passing.{Passed, all-passed, checked-same}
+use Rattle.project.proofs.Passing.{all-passed, checked-same}
 
 -- From the figures to the answer, as `project` meets it.
 pub ready : (ledger : List ℕ) (n start : ℕ) (errors : List ℕ) (f : Figures) → figuresFor ledger n start (length errors) ≡ accepted f → Ready (f .interval) start ledger errors

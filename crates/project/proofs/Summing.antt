@@ -4,14 +4,14 @@ use native.Mathlib.Omega.{arith}
 use mathlib.Core.Path.{_≡_, refl, sym, ap, _∙_}
 use mathlib.Core.List.{List, [], _∷_, _++_}
 use lib.ListN.{length, getD}
-use Rattle.terms.specs.Outcome.{Outcome, accepted, refused, after}
+use Rattle.terms.specs.Outcome.{accepted, refused, after}
 use Rattle.draw.specs.Walk.{stepOf}
 use Rattle.draw.proofs.Row.{row-sum}
 use Rattle.project.specs.declared.Line.{Line}
 use Rattle.project.specs.declared.Projection.{Projection}
 use Rattle.project.specs.Lines.{fullPart, sampledPart, countPart, total, projectionOf}
 use Rattle.project.specs.Walk.{lineAt, addedTo, Fits}
-use Rattle.project.specs.Project.{checkedLine, checkedLines, projectionAt, Ready}
+use Rattle.project.specs.Project.{checkedLine, projectionAt, Ready}
 use Rattle.project.proofs.Passing.{Passed, passed-none, passed-refused, passed-more, passed-end}
 use Rattle.project.proofs.Amounts.{total-more}
 

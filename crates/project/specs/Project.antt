@@ -1,14 +1,13 @@
 -- Step 5, the projection: its answer for every ledger, number of draws, start and errors. These are definitions: nothing is assumed.
 use Prim.Native.Nat.{ℕ, suc, _≤_}
 use mathlib.Core.Path.{_≡_}
-use mathlib.Core.Bool.{Bool, true, false}
+use mathlib.Core.Bool.{Bool, false}
 use mathlib.Core.List.{List, [], _∷_}
 use lib.Dec.{ltb}
 use lib.ListN.{length}
 use Rattle.terms.specs.Outcome.{Outcome, accepted, refused, refusedBy, after}
 use Rattle.terms.specs.Numbers.{pick, sum}
 use Rattle.terms.specs.Limits.{mostLines, mostTotal, mostInterval}
-use Rattle.split.specs.declared.Figures.{Figures}
 use Rattle.draw.specs.Draw.{figuresFor}
 use Rattle.project.specs.declared.State.{State}
 use Rattle.project.specs.declared.State.the-variants.{NotDrawn, Drawn, Full}

@@ -1,6 +1,6 @@
 -- `draw::figures_for` meets its contract: the split's answer, and then each return by the tests of the start that led there. Assumes nothing.
 use borrow.Author.Needs.{needs}
-use mathlib.Core.Path.{_≡_, sym, _∙_, ap}
+use mathlib.Core.Path.{sym, _∙_, ap}
 use Rattle.split.specs.Split.{splitSays}
 use Rattle.draw.proofs.Answer.{from-split, start-below, start-none, start-outside}
 use Rattle.draw.proofs.figures_for.Statement.{statement}

@@ -16,7 +16,7 @@ use Rattle.draw.specs.Row.{rowCents, marksFrom, drawMarks, ones}
 use Rattle.draw.specs.Draw.{figuresFor, marksAt, drawOf}
 use Rattle.draw.proofs.Laws.{row-sampled, start-accepted}
 use Rattle.project.specs.Lines.{linesOf, sampledPart, total, projectionOf}
-use Rattle.project.specs.Project.{checkedLines, projectionAt, projectOf}
+use Rattle.project.specs.Project.{checkedLines, projectionAt, projectedBy, projectOf}
 use Rattle.demands.specs.Starts.{sumBelow, oneIf, Within, entered}
 use Rattle.demands.specs.Demand3.{marksFor, projectedFor, sampledIn, fullIn, Demand3}
 use Rattle.demands.proofs.Sums.{sum-cong}
@@ -46,8 +46,8 @@ module _ (ledger : List ℕ) (n : ℕ) (errors : List ℕ) (f : Figures) (split 
         let J : ℕ = f .interval in
         let es : List ℕ = entered (marksFrom J start 0 ledger) errors in
         ap (λ (marks : List ℕ). projectOf ledger n start (entered marks errors)) marks-are
-        ∙ ap (λ (beside : ℕ). after (λ figures. projectionAt (figures .interval) start ledger es) (figuresFor ledger n start beside)) (entered-length J start 0 ledger errors)
-        ∙ ap (after (λ figures. projectionAt (figures .interval) start ledger es)) started
+        ∙ ap (λ (beside : ℕ). after (projectedBy ledger start es) (figuresFor ledger n start beside)) (entered-length J start 0 ledger errors)
+        ∙ ap (after (projectedBy ledger start es)) started
         ∙ ap (after (λ lines. accepted (projectionOf lines))) (entered-clean J start 0 0 ledger errors within)
 
   pub demand-3 : 0 < f .interval → Demand3 ledger n errors f

@@ -8,6 +8,7 @@ use lib.ListN.{length}
 use Rattle.terms.specs.Outcome.{Outcome, accepted, refused, refusedBy, after}
 use Rattle.terms.specs.Numbers.{pick, sum}
 use Rattle.terms.specs.Limits.{mostLines, mostTotal, mostInterval}
+use Rattle.split.specs.declared.Figures.{Figures}
 use Rattle.draw.specs.Draw.{figuresFor}
 use Rattle.project.specs.declared.State.{State}
 use Rattle.project.specs.declared.State.the-variants.{NotDrawn, Drawn, Full}
@@ -53,9 +54,13 @@ checkedLines J start ledger errors = checkedFrom 0 (linesOf J start ledger error
 unfoldable pub projectionAt : ℕ → ℕ → List ℕ → List ℕ → Outcome Projection
 projectionAt J start ledger errors = after (λ lines. accepted (projectionOf lines)) (checkedLines J start ledger errors)
 
+-- at the final interval
+abbrev pub projectedBy : List ℕ → ℕ → List ℕ → Figures → Outcome Projection
+projectedBy ledger start errors figures = projectionAt (figures .interval) start ledger errors
+
 -- the projection, after the refusals of the draw: the errors stand beside the ledger
 unfoldable pub projectOf : List ℕ → ℕ → ℕ → List ℕ → Outcome Projection
-projectOf ledger n start errors = after (λ figures. projectionAt (figures .interval) start ledger errors) (figuresFor ledger n start (length errors))
+projectOf ledger n start errors = after (projectedBy ledger start errors) (figuresFor ledger n start (length errors))
 
 -- what the walk along the lines starts from
 pub record Ready (J start : ℕ) (ledger errors : List ℕ) : Type 0 where

@@ -1,15 +1,15 @@
 -- From the split's answer to the draw's, as the code meets it. Assumes nothing.
-use mathlib.Core.Path.{_≡_, refl, sym, ap, _∙_}
+use mathlib.Core.Path.{_≡_, sym, ap, _∙_}
 use mathlib.Core.List.{List}
 use mathlib.Core.Logic.{⊎-elim}
-use Prim.Native.Nat.{ℕ, zero, suc, _≤_, _<_}
+use Prim.Native.Nat.{ℕ, _≤_, _<_}
 use native.Mathlib.Nat.{eq-zero-or-pos}
 use native.Mathlib.Omega.{arith}
 use borrow.Author.Tests.{lt-ltb, le-ltb, eq-eqb, ne-eqb}
 use Rattle.terms.specs.Outcome.{Outcome, accepted, refused, after}
 use Rattle.split.specs.declared.Figures.{Figures}
 use Rattle.split.specs.Split.{splitOf}
-use Rattle.draw.specs.Draw.{startFits, startIn, figuresFor, marksAt, drawOf}
+use Rattle.draw.specs.Draw.{startIn, figuresFor, marksAt, drawOf}
 use Rattle.draw.specs.Row.{drawMarks, ones}
 
 -- the figures for a start are what follows from the split's outcome

@@ -7,15 +7,15 @@ use mathlib.Core.Logic.{_↔_, ⊎-elim}
 use Prim.Native.Nat.{ℕ, zero, suc, _+_, _≤_, _<_}
 use native.Mathlib.Nat.{add-zero, zero-add, add-assoc, eq-zero-or-pos, not-suc-le-zero, le-of-suc-le-suc}
 use native.Mathlib.Omega.{arith}
-use borrow.Author.Tests.{ltb-true, ltb-false, eqb-true, eqb-false, le-ltb, lt-ltb, le-leb, lt-leb}
+use borrow.Author.Tests.{ltb-true, ltb-false, eqb-true, le-ltb, lt-ltb, le-leb, lt-leb}
 use lib.Dec.{T, ltb, eqb, ltb→lt}
 use lib.ListN.{length, getD}
-use Rattle.terms.specs.Outcome.{Outcome, accepted, refused, after}
-use Rattle.terms.specs.Numbers.{pick, sum}
+use Rattle.terms.specs.Outcome.{accepted}
+use Rattle.terms.specs.Numbers.{sum}
 use Rattle.terms.proofs.Outcomes.{never, after-accepted, Gives, gives-after}
 use Rattle.terms.proofs.Tests.{by-test, le-or-lt}
 use Rattle.split.specs.declared.Figures.{Figures}
-use Rattle.split.specs.Rounds.{upTo, keep}
+use Rattle.split.specs.Rounds.{upTo}
 use Rattle.split.specs.Split.{splitOf}
 use Rattle.split.proofs.Facts.{SplitFacts, split-facts, splitNumbers, split-gives}
 use Rattle.draw.specs.Points.{Covers, points, covers}

@@ -5,8 +5,8 @@ use native.Mathlib.Omega.{arith}
 use native.Mathlib.Numerals.{add-one}
 use mathlib.Core.Path.{_≡_, refl, sym, ap, _∙_}
 use mathlib.Core.Bool.{Bool, true, false}
-use mathlib.Core.List.{List, [], _∷_, _++_, append-nil}
-use mathlib.Core.Logic.{_⊎_, inl, inr, ⊎-elim}
+use mathlib.Core.List.{List, _∷_, _++_, append-nil}
+use mathlib.Core.Logic.{_⊎_, ⊎-elim}
 use borrow.Author.Tests.{ltb-true, ltb-false}
 use lib.Dec.{ltb, eqb}
 use lib.ListN.{length, getD, take, drop, set, length-set, length-map, drop-of-length-le}
@@ -17,7 +17,7 @@ use Rattle.split.specs.Split.{fullMark, fullMarks}
 use Rattle.draw.specs.Row.{full, cents, rowCents, firstCent, itemAt, markBy, drawMarks, ones}
 use Rattle.draw.specs.Walk.{stepBy, stepOf, marksWalk}
 use Rattle.draw.proofs.Walk.{marks-walked}
-use Rattle.draw.proofs.Row.{row-sum, first-more, first-le, Search, search-from, search-here, search-more, search-end}
+use Rattle.draw.proofs.Row.{row-sum, first-more, first-le, Search, search-from, search-here, search-end}
 
 -- a line that the next point is not within, and one that it is within
 pass-by : (J d v : ℕ) (f t : Bool) → ltb d v ≡ t → pick f 0 v ≤ d → (markBy f t ≡ pick f 2 0) × (stepBy f t J d v ≡ d - pick f 0 v)

@@ -1,5 +1,4 @@
 -- A law on outcomes beside those of `terms`: what gives some refusals gives them among more. Assumes nothing.
-use mathlib.Core.Path.{_≡_}
 use mathlib.Core.Bool.{Bool, true, false}
 use mathlib.Core.List.{List, [], _∷_, _++_}
 use Prim.Native.Nat.{ℕ}

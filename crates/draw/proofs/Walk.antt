@@ -10,7 +10,7 @@ use borrow.Author.Tests.{ltb-true, ltb-false, lt-ltb, le-ltb}
 use lib.Dec.{ltb}
 use Rattle.terms.specs.Numbers.{pick, divUp}
 use Rattle.draw.specs.Points.{points, covers}
-use Rattle.draw.specs.Row.{full, cents, markBy, marksFrom, drawMarks}
+use Rattle.draw.specs.Row.{full, cents, marksFrom, drawMarks}
 use Rattle.draw.specs.Walk.{stepBy, stepOf, marksWalk}
 use Rattle.draw.proofs.Points.{before-point, at-least-point, points-step}
 

@@ -1,13 +1,12 @@
 -- The practice sheet's draws, by computation. Assumes nothing.
 use mathlib.Core.Path.{_≡_, refl}
-use mathlib.Core.Bool.{Bool}
 use mathlib.Core.List.{List, [], _∷_}
 use Prim.Native.Nat.{ℕ, _<_}
 use lib.Dec.{T, eqb}
 use lib.ListN.{getD}
 use Rattle.terms.specs.Numbers.{divUp}
 use Rattle.terms.specs.Outcome.{accepted, refused, left}
-use Rattle.terms.proofs.Every.{below, below-at}
+use Rattle.terms.proofs.Every.{below-at}
 use Rattle.ledger.specs.Ledger.{ledgerOf, linesOf, linesFrom}
 use Rattle.split.specs.Rounds.{rounds}
 use Rattle.split.specs.Split.{splitOf, figuresFrom}

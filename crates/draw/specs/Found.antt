@@ -3,8 +3,6 @@ use Prim.Native.Nat.{ℕ, _≤_}
 use mathlib.Core.Path.{_≡_}
 use mathlib.Core.List.{List}
 use lib.ListN.{length}
-use Rattle.terms.specs.Numbers.{sum}
-use Rattle.terms.specs.Limits.{mostTotal}
 use Rattle.draw.specs.declared.Place.{Place}
 use Rattle.draw.specs.Row.{firstCent, itemAt}
 

@@ -1,10 +1,10 @@
 -- The amounts: none is above the interval, and those of the drawn lines with an error add up to the sampled sum and are m. Assumes nothing.
-use Prim.Native.Nat.{ℕ, zero, suc, _+_, _*_, _≤_, _<_, zero-le}
+use Prim.Native.Nat.{ℕ, _+_, _*_, _≤_, _<_, zero-le}
 use native.Mathlib.Nat.{mul-le-mul-right, mul-comm, zero-mul, add-zero}
 use native.Mathlib.Omega.{arith}
-use mathlib.Core.Path.{_≡_, refl, sym, ap, _∙_}
+use mathlib.Core.Path.{_≡_, refl, ap, _∙_}
 use mathlib.Core.Bool.{Bool, true, false}
-use mathlib.Core.List.{List, [], _∷_, _++_, append-nil}
+use mathlib.Core.List.{List, [], _∷_, _++_}
 use borrow.Author.Tests.{ltb-true, ltb-false}
 use lib.Dec.{ltb}
 use lib.ListN.{length, length-append}
@@ -17,15 +17,20 @@ use Rattle.project.specs.declared.Line.{Line}
 use Rattle.project.specs.Lines.{amount, stateBy, sampledPart, countPart, total, amountBefore, amountsOf}
 use Rattle.project.specs.Walk.{lineAt}
 
--- an amount is never above the interval
-pub amount-most : (J v e : ℕ) → 0 < v → e ≤ v → amount J v e ≤ J
+-- an amount is rounded once, and upwards
+pub amount-is : (J v e : ℕ) → amount J v e ≡ divUp (e * J) v
 unfolding amount
-amount-most J v e some h = divUp-least J (e * J) v some (omega (arith, mul-le-mul-right J h, mul-comm J v))
+amount-is J v e = refl
+
+-- it is never above the interval
+pub amount-most : (J v e : ℕ) → 0 < v → e ≤ v → amount J v e ≤ J
+amount-most J v e some h = rw (amount-is J v e) (divUp-least J (e * J) v some (omega (arith, mul-le-mul-right J h, mul-comm J v)))
 
 -- and an error of 0 has the amount 0
 pub amount-none : (J v e : ℕ) → 0 < v → e ≡ 0 → 0 ≡ amount J v e
-unfolding amount
-amount-none J v e some z = let none : divUp (e * J) v ≤ 0 = divUp-least 0 (e * J) v some (rw (z, zero-mul J) zero-le) in omega arith
+amount-none J v e some z =
+    let none : divUp (e * J) v ≤ 0 = divUp-least 0 (e * J) v some (rw (z, zero-mul J) zero-le) in
+    omega (arith, amount-is J v e)
 
 -- the same of a list with one line more
 pub total-more : (part : State → ℕ → ℕ) (ls : List Line) (l : Line) → total part (ls ++ (l ∷ [])) ≡ total part ls + part (l .state) (l .error)

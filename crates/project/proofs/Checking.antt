@@ -1,12 +1,11 @@
 -- A line's check, as `checked_line` meets its cases. Assumes nothing.
 use Prim.Native.Nat.{ℕ, _≤_, _<_}
-use mathlib.Core.Path.{_≡_, refl}
+use mathlib.Core.Path.{_≡_}
 use borrow.Author.Tests.{lt-ltb, le-ltb}
-use Rattle.terms.specs.Outcome.{Outcome, accepted, refused}
-use Rattle.project.specs.declared.State.{State}
+use Rattle.terms.specs.Outcome.{accepted, refused}
 use Rattle.project.specs.declared.State.the-variants.{NotDrawn, Drawn, Full}
 use Rattle.project.specs.declared.Line.{Line}
-use Rattle.project.specs.Project.{misplaced, checkedLine}
+use Rattle.project.specs.Project.{checkedLine}
 
 pub above-value : (item : ℕ) (l : Line) → l .value < l .error → refused 14 item ≡ checkedLine item l
 unfolding checkedLine

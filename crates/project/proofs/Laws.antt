@@ -1,19 +1,19 @@
 -- What is known of an accepted projection, which refusals the projection gives, and that its lines are marked as the draw marks them.
 -- Assumes nothing.
-use mathlib.Core.Path.{_≡_, refl, sym, ap, _∙_}
+use mathlib.Core.Path.{_≡_, refl, ap, _∙_}
 use mathlib.Core.Bool.{Bool, true, false}
 use mathlib.Core.List.{List, [], _∷_, _++_, map}
 use Prim.Native.Nat.{ℕ, suc, _+_, _≤_}
 use native.Mathlib.Omega.{arith}
 use lib.Dec.{ltb}
 use lib.ListN.{length, getD, drop}
-use Rattle.terms.specs.Outcome.{Outcome, accepted, refused, after}
+use Rattle.terms.specs.Outcome.{accepted, refused, after}
 use Rattle.terms.specs.Numbers.{pick, sum}
 use Rattle.terms.proofs.Outcomes.{after-accepted, Gives, gives-after}
 use Rattle.terms.proofs.Tests.{by-test}
 use Rattle.split.specs.declared.Figures.{Figures}
 use Rattle.draw.specs.Points.{covers}
-use Rattle.draw.specs.Row.{full, cents, rowCents, marksFrom, drawMarks}
+use Rattle.draw.specs.Row.{full, cents, marksFrom, drawMarks}
 use Rattle.draw.specs.Draw.{figuresFor}
 use Rattle.draw.proofs.MoreOutcomes.{gives-more}
 use Rattle.draw.proofs.Laws.{StartFacts, start-facts, drawNumbers, figures-give}
@@ -21,10 +21,10 @@ use Rattle.project.specs.declared.State.{State}
 use Rattle.project.specs.declared.State.the-variants.{NotDrawn, Drawn, Full}
 use Rattle.project.specs.declared.Line.{Line}
 use Rattle.project.specs.declared.Projection.{Projection}
-use Rattle.project.specs.Lines.{amount, stateBy, linesFrom, linesOf, fullPart, sampledPart, countPart, total, projectionOf, amountsOf}
-use Rattle.project.specs.Project.{misplaced, checkedLine, checkedFrom, checkedLines, projectionAt, projectOf, Ready}
+use Rattle.project.specs.Lines.{amount, stateBy, linesFrom, linesOf, projectionOf}
+use Rattle.project.specs.Project.{misplaced, checkedLine, checkedFrom, checkedLines, projectionAt, projectedBy, projectOf, Ready}
 use Rattle.project.proofs.Amounts.{Amounts}
-use Rattle.project.proofs.Passing.{Passed, all-passed, checked-same}
+use Rattle.project.proofs.Passing.{all-passed, checked-same}
 
 -- From the figures to the answer, as `project` meets it.
 pub ready : (ledger : List ℕ) (n start : ℕ) (errors : List ℕ) (f : Figures) → figuresFor ledger n start (length errors) ≡ accepted f → Ready (f .interval) start ledger errors
@@ -36,11 +36,11 @@ ready ledger n start errors f e =
 module _ (ledger : List ℕ) (n start : ℕ) (errors : List ℕ) where
   pub project-refused : {k p : ℕ} → refused k p ≡ figuresFor ledger n start (length errors) → refused k p ≡ projectOf ledger n start errors
   unfolding projectOf
-  project-refused e = ap (after (λ figures. projectionAt (figures .interval) start ledger errors)) e
+  project-refused e = ap (after (projectedBy ledger start errors)) e
 
   pub project-from : (f : Figures) → accepted f ≡ figuresFor ledger n start (length errors) → projectionAt (f .interval) start ledger errors ≡ projectOf ledger n start errors
   unfolding projectOf
-  project-from f e = ap (after (λ figures. projectionAt (figures .interval) start ledger errors)) e
+  project-from f e = ap (after (projectedBy ledger start errors)) e
 
 -- lines that pass the check are the lines that were checked
 pub checked-lines : (item : ℕ) (ls good : List Line) → checkedFrom item ls ≡ accepted good → good ≡ ls
@@ -69,7 +69,7 @@ pub record ProjectFacts (ledger : List ℕ) (n start : ℕ) (errors : List ℕ) 
 pub project-facts : (ledger : List ℕ) (n start : ℕ) (errors : List ℕ) (p : Projection) → projectOf ledger n start errors ≡ accepted p → ProjectFacts ledger n start errors p
 unfolding projectOf projectionAt checkedLines
 project-facts ledger n start errors p e =
-    let a = after-accepted (λ figures. projectionAt (figures .interval) start ledger errors) (figuresFor ledger n start (length errors)) p e in
+    let a = after-accepted (projectedBy ledger start errors) (figuresFor ledger n start (length errors)) p e in
     let f : Figures = a .0 in
     let J : ℕ = f .interval in
     let s = start-facts ledger n start (length errors) f (a .1) in
@@ -104,7 +104,7 @@ checked-gives item (l ∷ ls) =
 pub project-gives : (ledger : List ℕ) (n start : ℕ) (errors : List ℕ) → Gives projectNumbers (projectOf ledger n start errors)
 unfolding projectOf projectionAt checkedLines
 project-gives ledger n start errors =
-    gives-after projectNumbers (λ figures. projectionAt (figures .interval) start ledger errors) (figuresFor ledger n start (length errors))
+    gives-after projectNumbers (projectedBy ledger start errors) (figuresFor ledger n start (length errors))
     (gives-more drawNumbers (14 ∷ 15 ∷ []) (figuresFor ledger n start (length errors)) (figures-give ledger n start (length errors)))
     (λ f. gives-after projectNumbers (λ lines. accepted (projectionOf lines)) (checkedLines (f .interval) start ledger errors) (checked-gives 0 (linesOf (f .interval) start ledger errors)) (λ lines. tt))
 

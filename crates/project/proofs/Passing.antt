@@ -1,6 +1,6 @@
 -- What is known while a loop walks along the lines, checks each and goes on: which lines it has passed, that the whole follows from them and
 -- the rest, and that what they add up to fits. The projection's loop stands on it, and any other over the same walk. Assumes nothing.
-use Prim.Native.Nat.{ℕ, zero, suc, _+_, _*_, _-_, _^_, _≤_, _<_, zero-le}
+use Prim.Native.Nat.{ℕ, zero, suc, _+_, _-_, _≤_, _<_, zero-le}
 use native.Mathlib.Omega.{arith}
 use native.Mathlib.Numerals.{add-one}
 use mathlib.Core.Path.{_≡_, refl, sym, ap, subst, _∙_}
@@ -16,9 +16,8 @@ use Rattle.terms.proofs.Outcomes.{never}
 use Rattle.terms.proofs.Tests.{by-test}
 use Rattle.draw.specs.Row.{full, cents, rowCents}
 use Rattle.draw.specs.Walk.{stepBy, stepOf}
-use Rattle.project.specs.declared.State.{State}
 use Rattle.project.specs.declared.Line.{Line}
-use Rattle.project.specs.Lines.{amount, stateBy, fullPart, sampledPart, countPart, total, linesOf}
+use Rattle.project.specs.Lines.{amount, stateBy, fullPart, sampledPart, countPart, total}
 use Rattle.project.specs.Walk.{lineAt, linesWalk}
 use Rattle.project.specs.Project.{misplaced, checkedLine, checkedFrom, checkedLines}
 use Rattle.project.proofs.Walk.{lines-walked, walk-on}

@@ -1,7 +1,7 @@
 -- Step 5, the projection: its answer for every ledger, number of draws, start and errors. These are definitions: nothing is assumed.
 use Prim.Native.Nat.{ℕ, suc, _≤_}
 use mathlib.Core.Path.{_≡_}
-use mathlib.Core.Bool.{Bool, true, false}
+use mathlib.Core.Bool.{Bool, false}
 use mathlib.Core.List.{List, [], _∷_}
 use lib.Dec.{ltb}
 use lib.ListN.{length}
@@ -54,9 +54,13 @@ checkedLines J start ledger errors = checkedFrom 0 (linesOf J start ledger error
 unfoldable pub projectionAt : ℕ → ℕ → List ℕ → List ℕ → Outcome Projection
 projectionAt J start ledger errors = after (λ lines. accepted (projectionOf lines)) (checkedLines J start ledger errors)
 
+-- at the final interval
+abbrev pub projectedBy : List ℕ → ℕ → List ℕ → Figures → Outcome Projection
+projectedBy ledger start errors figures = projectionAt (figures .interval) start ledger errors
+
 -- the projection, after the refusals of the draw: the errors stand beside the ledger
 unfoldable pub projectOf : List ℕ → ℕ → ℕ → List ℕ → Outcome Projection
-projectOf ledger n start errors = after (λ figures. projectionAt (figures .interval) start ledger errors) (figuresFor ledger n start (length errors))
+projectOf ledger n start errors = after (projectedBy ledger start errors) (figuresFor ledger n start (length errors))
 
 -- what the walk along the lines starts from
 pub record Ready (J start : ℕ) (ledger errors : List ℕ) : Type 0 where

@@ -1,11 +1,11 @@
 -- `draw::draw` meets its contract: where no refusal is given, the marks are first the split's and then the draw's. Assumes nothing.
 use borrow.Author.Needs.{needs}
 use native.Mathlib.Omega.{arith}
-use mathlib.Core.Path.{_≡_, sym, _∙_, ap}
+use mathlib.Core.Path.{sym, _∙_, ap}
 use Rattle.terms.specs.Outcome.{left}
 use Rattle.split.specs.Split.{splitSays}
 use Rattle.draw.proofs.Answer.{draw-refused, draw-drawn}
-use Rattle.draw.proofs.Laws.{StartFacts, start-facts}
+use Rattle.draw.proofs.Laws.{start-facts}
 use Rattle.draw.proofs.draw.Statement.{statement}
 use Rattle.draw.proofs.draw.Tie as tie
 

@@ -1,6 +1,6 @@
 -- `draw::figures_for` meets its contract: the split's refusal, or what the start makes of its figures. Assumes nothing.
 use borrow.Author.Needs.{needs}
-use mathlib.Core.Path.{_≡_, sym, _∙_, ap}
+use mathlib.Core.Path.{sym, _∙_, ap}
 use Rattle.split.specs.Split.{splitSays}
 use Rattle.draw.proofs.Answer.{from-split}
 use Rattle.draw.proofs.figures_for.Statement.{statement}

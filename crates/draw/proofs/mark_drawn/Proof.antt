@@ -1,6 +1,5 @@
 -- `draw::mark_drawn` meets its contract. The invariant: the lines before the next place have their marks, and the others still the
 -- split's. The measure is what is left of the length. Assumes nothing.
-use borrow.Author.Needs.{needs}
 use native.Mathlib.Omega.{arith}
 use Prim.Native.Nat.{_-_, _+_, _<_, _≤_}
 use mathlib.Core.Path.{_≡_}

@@ -2,12 +2,11 @@
 use borrow.Author.Needs.{needs}
 use native.Mathlib.Omega.{arith}
 use native.Mathlib.Nat.{mul-le-mul}
-use mathlib.Core.Path.{refl}
+use mathlib.Core.Path.{sym}
 use Prim.Native.Nat.{_≤_, _*_}
 use Rattle.terms.specs.Numbers.{divUp}
 use Rattle.terms.specs.Limits.{mostInterval}
-use Rattle.project.specs.Lines.{amount}
-use Rattle.project.proofs.Amounts.{amount-none}
+use Rattle.project.proofs.Amounts.{amount-is, amount-none}
 use Rattle.project.proofs.amount_of.Statement.{statement}
 use Rattle.project.proofs.amount_of.Tie as tie
 
@@ -30,8 +29,8 @@ div-result : tie.Need-div-result
 div-result c = search needs
 
 returns-2 : tie.Need-returns-2
-unfolding amount divUp
-returns-2 c = refl
+unfolding divUp
+returns-2 c = sym (amount-is _ _ _)
 
 pub amount-of-spec : {M : Type 1} → statement M
 amount-of-spec = tie.close (tie.spec returns mul-result sub-result add-result div-result returns-2)

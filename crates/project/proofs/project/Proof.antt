@@ -1,6 +1,6 @@
 -- `project::project` meets its contract: the draw's refusals, and then the projection at the figures' interval. Assumes nothing.
 use borrow.Author.Needs.{needs}
-use mathlib.Core.Path.{_≡_, sym, _∙_, ap}
+use mathlib.Core.Path.{sym, _∙_, ap}
 use Rattle.split.specs.Split.{splitSays}
 use Rattle.project.proofs.Laws.{ready, project-refused, project-from}
 use Rattle.project.proofs.project.Statement.{statement}

@@ -1,0 +1,5 @@
+-- The proofs of what is shown across the steps.
+pub mod Sums
+pub mod Fair
+pub mod Demand3
+pub mod Worked

@@ -1,0 +1,45 @@
+-- Demand 3, over the answers of the draw and the projection: the draw is fair, and the projection never lets an error be lost. These are
+-- definitions: nothing is assumed.
+use Prim.Native.Nat.{ℕ, _+_, _*_, _≤_, _<_}
+use mathlib.Core.Path.{_≡_}
+use mathlib.Core.List.{List, []}
+use lib.Dec.{eqb}
+use lib.ListN.{length, getD}
+use Rattle.terms.specs.Outcome.{Outcome, accepted, refused, left}
+use Rattle.split.specs.declared.Figures.{Figures}
+use Rattle.draw.specs.Draw.{figuresFor, marksAt, drawOf}
+use Rattle.project.specs.declared.Projection.{Projection}
+use Rattle.project.specs.Project.{projectOf}
+use Rattle.demands.specs.Starts.{sumBelow, oneIf, entered, sampledError, fullError}
+
+-- the marks that the draw leaves in a buffer of the ledger's length
+abbrev pub marksFor : List ℕ → ℕ → ℕ → List ℕ
+marksFor ledger n start = left (marksAt ledger start) [] (figuresFor ledger n start (length ledger))
+
+-- the projection at a start, where the errors of drawn and full lines are entered and no others
+abbrev pub projectedFor : List ℕ → ℕ → List ℕ → ℕ → Outcome Projection
+projectedFor ledger n errors start = projectOf ledger n start (entered (marksFor ledger n start) errors)
+
+-- the sums of an answer
+abbrev pub sampledIn : Outcome Projection → ℕ
+sampledIn (accepted projection) = projection .sampled
+sampledIn (refused number place) = 0
+
+abbrev pub fullIn : Outcome Projection → ℕ
+fullIn (accepted projection) = projection .full
+fullIn (refused number place) = 0
+
+-- for a ledger and n that the split accepts with these figures, over the starts below J
+pub record Demand3 (ledger : List ℕ) (n : ℕ) (errors : List ℕ) (figures : Figures) : Type 0 where
+  -- each sampled line is drawn in exactly as many of the starts as it has cents
+  pub drawn : (item : ℕ) → item < length ledger → getD ledger item 0 ≤ figures .interval →
+      sumBelow (figures .interval) (λ start. oneIf (eqb (getD (marksFor ledger n start) item 0) 1)) ≡ getD ledger item 0
+  -- the sampled sums, added over the starts, are at least J × the sampled lines' true error
+  pub least : figures .interval * sampledError (figures .interval) ledger errors ≤ sumBelow (figures .interval) (λ start. sampledIn (projectedFor ledger n errors start))
+  -- and exceed it by less than the sampled lines' book value
+  pub most : sumBelow (figures .interval) (λ start. sampledIn (projectedFor ledger n errors start)) < figures .interval * sampledError (figures .interval) ledger errors + figures .«sampled_total»
+  -- the full sum is exact at every start
+  pub exact : (start : ℕ) → start < figures .interval → fullIn (projectedFor ledger n errors start) ≡ fullError (figures .interval) ledger errors
+  -- neither the draw nor the projection refuses at any of the starts
+  pub draws : (start : ℕ) → start < figures .interval → (lines : ℕ) × (drawOf ledger n start (length ledger) ≡ accepted lines)
+  pub answers : (start : ℕ) → start < figures .interval → (projection : Projection) × (projectedFor ledger n errors start ≡ accepted projection)

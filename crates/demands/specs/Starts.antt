@@ -1,0 +1,36 @@
+-- Sums over all starts, the errors that are entered at a start, and the true errors of the sampled and of the full lines. These are
+-- definitions: nothing is assumed.
+use Prim.Native.Nat.{ℕ, zero, suc, _+_, _≤_}
+use mathlib.Core.Bool.{Bool}
+use mathlib.Core.List.{List, [], _∷_}
+use lib.Dec.{eqb}
+use lib.ListN.{getD, drop}
+use Rattle.terms.specs.Numbers.{pick}
+use Rattle.draw.specs.Row.{full}
+
+-- f 0 + f 1 + .. + f (n - 1)
+unfoldable pub sumBelow : ℕ → (ℕ → ℕ) → ℕ
+sumBelow zero f = 0
+sumBelow (suc n) f = sumBelow n f + f n
+
+-- 1 where the test passes
+abbrev pub oneIf : Bool → ℕ
+oneIf test = pick test 1 0
+
+-- every true error is between nothing and the line's book value
+unfoldable pub Within : List ℕ → List ℕ → Type 0
+Within ledger errors = (item : ℕ) → getD errors item 0 ≤ getD ledger item 0
+
+-- the errors that are entered where the draw leaves these marks: those of drawn and full lines, and 0 for the others
+unfoldable pub entered : List ℕ → List ℕ → List ℕ
+entered [] errors = []
+entered (mark ∷ later) errors = pick (eqb mark 0) 0 (getD errors 0 0) ∷ entered later (drop 1 errors)
+
+-- the true error of the sampled lines, and of the full ones
+unfoldable pub sampledError : ℕ → List ℕ → List ℕ → ℕ
+sampledError J [] errors = 0
+sampledError J (value ∷ later) errors = pick (full J value) 0 (getD errors 0 0) + sampledError J later (drop 1 errors)
+
+unfoldable pub fullError : ℕ → List ℕ → List ℕ → ℕ
+fullError J [] errors = 0
+fullError J (value ∷ later) errors = pick (full J value) (getD errors 0 0) 0 + fullError J later (drop 1 errors)

@@ -62,9 +62,30 @@ module _ (J : ℕ) (ledger : List ℕ) (c item first : ℕ) (at : Search J ledge
     unfolding itemAt
     search-here l = sym (rw (drop-cons ledger item 0 more, lt-ltb _ _ l) at (at .found) ∙ add-zero item)
 
-    pub search-more : cents J (getD ledger item 0) ≤ c - first → Search J ledger c (item + 1) (first + cents J (getD ledger item 0))
+    search-more : cents J (getD ledger item 0) ≤ c - first → Search J ledger c (item + 1) (first + cents J (getD ledger item 0))
     search-more l = search-from J ledger c (item + 1) _ (omega arith) (omega (arith, at .begins, first-more J ledger item more)) (omega (arith, at .ahead))
 
   pub search-end : length ledger ≤ item → item ≡ itemAt J ledger c
   unfolding itemAt
   search-end h = sym (rw (drop-of-length-le ledger h) at (at .found) ∙ add-zero item)
+
+-- The search as the loop makes it, by how far the cent lies ahead of the item's first cent.
+pub record Ahead (J : ℕ) (ledger : List ℕ) (c item ahead : ℕ) : Type 0 where
+  pub near : ahead ≤ c
+  pub at : Search J ledger c item (c - ahead)
+
+pub ahead-from : (J : ℕ) (ledger : List ℕ) (c item first : ℕ) → item ≤ length ledger → first ≡ firstCent J ledger item → first ≤ c → Ahead J ledger c item (c - first)
+ahead-from J ledger c item first h e l = record { near = omega arith; at = search-from J ledger c item (c - (c - first)) h (omega arith) (omega arith) }
+
+module _ (J : ℕ) (ledger : List ℕ) (c item ahead : ℕ) (by : Ahead J ledger c item ahead) where
+  module _ (more : item < length ledger) (taken : ℕ) (takes : taken ≡ cents J (getD ledger item 0)) where
+    pub ahead-here : ahead < taken → item ≡ itemAt J ledger c
+    ahead-here l = search-here J ledger c item (c - ahead) (by .at) more (omega (arith, by .near, takes))
+
+    pub ahead-more : taken ≤ ahead → Ahead J ledger c (item + 1) (ahead - taken)
+    ahead-more l =
+        let e : (c - ahead) + cents J (getD ledger item 0) ≡ c - (ahead - taken) = omega (arith, by .near, takes) in
+        record { near = omega (arith, by .near); at = rw e at (search-more J ledger c item (c - ahead) (by .at) more (omega (arith, by .near, takes))) }
+
+  pub ahead-end : length ledger ≤ item → item ≡ itemAt J ledger c
+  ahead-end h = search-end J ledger c item (c - ahead) (by .at) h

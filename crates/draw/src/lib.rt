@@ -55,18 +55,20 @@ fn item_at(ledger: &[u64], interval: u64, from: Place, cent: Cent) -> Place
 {
     let sought = cent.0;
     let mut item = from.item.0;
-    let mut first = from.first.0;
+    let mut ahead = sought - from.first.0;
     while item < ledger.len() {
         let taken = cents_of(ledger[item], interval);
-        if sought - first < taken {
+        if ahead < taken {
+            let first = sought - ahead;
             return Place {
                 item: Item(item),
                 first: Cent(first),
             };
         }
-        first += taken;
+        ahead -= taken;
         item += 1;
     }
+    let first = sought - ahead;
     Place {
         item: Item(item),
         first: Cent(first),

@@ -1,8 +1,8 @@
 -- The two bounds of the rule are bounds of exp(F/100) while F is at most 12,800: every longer sum of its series lies between them.
 -- So a factor by the two bounds is the factor by every longer sum. Assumes nothing.
-use mathlib.Core.Path.{_≡_, refl, sym, ap, _∙_, subst}
-use Prim.Native.Nat.{ℕ, zero, suc, _+_, _-_, _*_, _≤_, _<_}
-use native.Mathlib.Nat.{mul-assoc, mul-comm, le-trans, le-of-mul-le-mul-right, mul-le-mul-left, mul-le-mul-right, add-sub-of-le}
+use mathlib.Core.Path.{subst}
+use Prim.Native.Nat.{ℕ, zero, suc, _-_, _*_, _≤_, _<_}
+use native.Mathlib.Nat.{mul-assoc, le-of-mul-le-mul-right, mul-le-mul-left, mul-le-mul-right, add-sub-of-le}
 use native.Mathlib.Omega.{arith}
 use lib.Dec.{lit<, lit≤}
 use Rattle.factors.specs.Rule.{scale, terms, low, high, partial, AtMost, AtMostBy, Factor, Between}

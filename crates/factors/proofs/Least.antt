@@ -1,7 +1,7 @@
 -- What the rule says at one mean it says at every smaller (no) and every larger (yes) one. Assumes nothing.
-use mathlib.Core.Path.{_≡_, sym, ap, _∙_, subst, subst₂}
-use Prim.Native.Nat.{ℕ, zero, suc, _+_, _-_, _*_, _/_, _^_, _≤_, _<_}
-use native.Mathlib.Nat.{le-antisymm, le-trans, le-of-eq, le-dest, lt-of-lt-of-le, le-add-right, add-le-add, add-zero, add-suc, add-mul, mul-add, mul-comm, mul-assoc, mul-left-comm, mul-right-comm, mul-le-mul-left, mul-le-mul-right, le-of-mul-le-mul-right, pow-zero, pow-le-pow-left, one-mul, add-sub-of-le, le-step, mul-mul-mul-comm}
+use mathlib.Core.Path.{_≡_, ap, _∙_, subst, subst₂}
+use Prim.Native.Nat.{ℕ, zero, suc, _+_, _-_, _*_, _^_, _≤_, _<_}
+use native.Mathlib.Nat.{le-antisymm, le-trans, le-of-eq, le-dest, lt-of-lt-of-le, le-add-right, add-zero, add-suc, add-mul, mul-add, mul-comm, mul-assoc, mul-left-comm, mul-right-comm, mul-le-mul-left, mul-le-mul-right, le-of-mul-le-mul-right, pow-zero, pow-le-pow-left, one-mul, add-sub-of-le, le-step, mul-mul-mul-comm}
 use native.Mathlib.Omega.{arith}
 use lib.Pow.{pow-add}
 use lib.Dec.{lit<}

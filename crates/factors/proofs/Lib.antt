@@ -1,4 +1,5 @@
--- The rule at every entry of the table, and what callers cite of the levels and the factors.
+-- Document 01's own figures, the rule at every entry of the table, and what callers cite of the levels and the factors.
+pub mod Worked
 pub mod Series
 pub mod Exponential
 pub mod Least
@@ -7,4 +8,3 @@ pub mod Percents
 pub mod Whole
 pub mod Shape
 pub mod Steps
-pub mod Worked

@@ -7,7 +7,7 @@ use native.Mathlib.Nat.{add-zero, zero-add, add-suc, suc-add, mul-assoc, mul-suc
 use native.Mathlib.Omega.{arith}
 use lib.Dec.{T, leb, ltb, leb→le, ltb→lt}
 use Rattle.terms.proofs.Every.{both, both-left, both-right}
-use Rattle.factors.specs.Rule.{weight, term, terms, low, high, partial, AtMost, Factor}
+use Rattle.factors.specs.Rule.{weight, terms, low, high, partial, AtMost, Factor}
 use Rattle.factors.proofs.Series.{weight-pos, scaled, partial-terms, bound, bound-terms, low-above, high-below}
 use Rattle.factors.proofs.Least.{least}
 

@@ -1,12 +1,12 @@
 -- The partial sums of the series, each over its own denominator: they rise with the power, and with twice the next term added they
 -- fall, from a power on at which each term is at most half of the one before. Assumes nothing.
-use mathlib.Core.Path.{_≡_, refl, sym, ap, ap₂, _∙_, subst, subst₂}
+use mathlib.Core.Path.{_≡_, sym, ap, ap₂, _∙_, subst, subst₂}
 use mathlib.Core.Bool.{Bool}
-use Prim.Native.Nat.{ℕ, zero, suc, _+_, _-_, _*_, _/_, _^_, _≤_, _<_}
-use native.Mathlib.Nat.{add-zero, add-suc, add-mul, mul-comm, mul-assoc, mul-right-comm, mul-left-comm, mul-mul-mul-comm, mul-pos, zero-mul, pow-zero, pow-suc, le-refl, le-trans, le-of-eq, le-add-right, mul-le-mul-left, mul-le-mul-right, le-of-mul-le-mul-right, eq-of-mul-eq-mul-right, add-sub-of-le}
+use Prim.Native.Nat.{ℕ, zero, suc, _+_, _-_, _*_, _^_, _≤_, _<_}
+use native.Mathlib.Nat.{add-zero, add-suc, add-mul, mul-comm, mul-assoc, mul-right-comm, mul-left-comm, mul-mul-mul-comm, mul-pos, zero-mul, pow-zero, pow-suc, le-refl, le-trans, le-add-right, mul-le-mul-left, mul-le-mul-right, le-of-mul-le-mul-right, eq-of-mul-eq-mul-right, add-sub-of-le}
 use native.Mathlib.Omega.{arith}
-use lib.Dec.{T, eqb, eqb→eq, lit<}
-use Rattle.terms.proofs.Every.{below, below-at}
+use lib.Dec.{eqb, eqb→eq, lit<}
+use Rattle.terms.proofs.Every.{below-at}
 use Rattle.factors.specs.Rule.{fact, scale, weight, term, sumTo, terms, low, high, partial}
 
 scale-step : (n : ℕ) → scale (suc n) ≡ scale n * (100 * suc n)

@@ -1,9 +1,8 @@
 -- Facts of the factors that callers cite, each one test that is computed over the table. Assumes nothing.
-use mathlib.Core.Path.{_≡_, refl, sym, ap, _∙_, subst, subst₂}
-use mathlib.Core.Bool.{Bool, true, false}
+use mathlib.Core.Path.{_≡_, sym, ap, _∙_, subst, subst₂}
+use mathlib.Core.Bool.{Bool, true}
 use mathlib.Core.Logic.{⊎-elim}
-use mathlib.Core.List.{List, [], _∷_}
-use Prim.Native.Nat.{ℕ, zero, suc, _+_, _-_, _*_, _/_, _%_, _≤_, _<_}
+use Prim.Native.Nat.{ℕ, zero, suc, _+_, _-_, _*_, _≤_, _<_}
 use native.Mathlib.Nat.{add-suc, add-zero, add-assoc, suc-mul, le-trans, le-of-eq}
 use native.Mathlib.Omega.{arith}
 use lib.Dec.{T, leb, ltb, leb→le}
@@ -11,13 +10,15 @@ use lib.ListN.{getD}
 use borrow.Author.Tests.{lt-ltb, le-leb}
 use Rattle.terms.specs.Numbers.{pick}
 use Rattle.terms.proofs.Tests.{le-or-lt}
-use Rattle.terms.proofs.Every.{both, both-left, both-right, every, at, below, below-at}
+use Rattle.terms.proofs.Every.{both, both-left, both-right, at, below, below-at}
 use Rattle.factors.specs.declared.Level.{Level}
 use Rattle.factors.specs.Levels.{percentOf, rowOf}
+use Rattle.factors.specs.Rule.{AtMostBy}
 use Rattle.factors.specs.Table.{table}
 use Rattle.factors.specs.Factors.{rf}
 use Rattle.factors.proofs.Percents.{row-lt, percents, percent-at}
-use Rattle.factors.proofs.Whole.{placeOf, rf-in, rf-out, carry}
+use Rattle.factors.proofs.Exponential.{by-every-sum}
+use Rattle.factors.proofs.Whole.{placeOf, rf-in, rf-out, carry, rf-factor}
 
 -- G is from a to b
 abbrev among : ℕ → ℕ → ℕ → Bool
@@ -100,3 +101,8 @@ rf-levels a b k o = ⊎-elim (λ g. omega (arith, rf-out b k g)) inside (le-or-l
     inside h =
         subst₂ (λ (x y : ℕ). x ≤ y) (ap (λ (n : ℕ). getD table n 0) place ∙ sym (rf-in b k h)) (sym (rf-in a k h))
         (rows-fall (rowOf b - rowOf a) (placeOf a k) (omega (arith, place, row-lt b)))
+
+-- each entry is the factor by every longer sum of the series, too
+pub rf-by-every-sum : (l : Level) (k n : ℕ) → k < 64 → 256 ≤ n
+    → AtMostBy n (percentOf l) k (rf l k) × ((G : ℕ) → G < rf l k → ¬ AtMostBy n (percentOf l) k G)
+rf-by-every-sum l k n h long = by-every-sum (percentOf l) k (rf l k) n (rf-factor l k h) (omega (arith, rf-top l k)) long

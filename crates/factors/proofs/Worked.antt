@@ -1,8 +1,7 @@
 -- Document 01's own figures: RF(0) and EF of the nine levels, and the first step at level 50. Computed; assumes nothing.
 use mathlib.Core.Path.{_≡_, refl}
 use mathlib.Core.List.{List, [], _∷_, map}
-use Prim.Native.Nat.{ℕ}
-use lib.IntN.{ℤ, negsuc}
+use lib.IntN.{negsuc}
 use Rattle.factors.specs.declared.Level.{Level}
 use Rattle.factors.specs.declared.Level.the-variants.{P99, P95, P90, P85, P80, P75, P70, P60, P50}
 use Rattle.factors.specs.Levels.{percentOf, ef}

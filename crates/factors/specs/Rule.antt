@@ -11,7 +11,7 @@ fact (suc n) = suc n * fact n
 unfoldable pub scale : ℕ → ℕ
 scale n = fact n * 100 ^ n
 
--- the term of power i, for i up to 256, times the denominator of the last
+-- the term of power i, for i up to 256, times the denominator of the power 256: F^i and its weight
 unfoldable pub weight : ℕ → ℕ
 weight i = scale 256 / scale i
 

@@ -15,7 +15,7 @@ use Rattle.terms.proofs.Tests.{by-test}
 use Rattle.ledger.specs.Ledger.{ledgerOf, linesFrom, linesOf, someTotal}
 use Rattle.ledger.proofs.Laws.{Good, good, ledger-gives-in}
 use Rattle.split.specs.Rounds.{above, upTo, intervalOf, Rest, splitLines, intervals, becomesFull}
-use Rattle.split.specs.Split.{figuresOf, settledOf, drawnFrom, splitOf}
+use Rattle.split.specs.Split.{Totalled, figuresOf, settledOf, figuresFrom, splitOf}
 use Rattle.split.specs.declared.Figures.{Figures}
 use Rattle.split.proofs.Lines.{sum-parts, upTo-zero}
 use Rattle.split.proofs.Laws.{Settled}
@@ -76,20 +76,28 @@ module _ (ledger : List ℕ) (n : ℕ) (some : n ≡ 0 → ⊥) where
       (sym settled-is ∙ e)
 
 pub split-facts : (ledger : List ℕ) (n beside : ℕ) (f : Figures) → splitOf ledger n beside ≡ accepted f → SplitFacts ledger n beside f
-unfolding splitOf
+unfolding splitOf figuresFrom
 split-facts ledger n beside f e =
-    let a = after-accepted (drawnFrom ledger n) (ledgerOf ledger beside) f e in
+    let a = after-accepted (figuresFrom ledger n) (ledgerOf ledger beside) f e in
     let g = good ledger beside (a .0) (a .1) in
     let whole : Good ledger beside (sum ledger) = record { few = g .few; same = g .same; added = refl; some = omega arith; most = omega arith } in
     by-test (λ o. o ≡ accepted f → SplitFacts ledger n beside f) (eqb n 0) (λ z h. never h) (λ z h. facts-settled ledger n (eqb-false n 0 z) beside f whole h) (a .2)
+
+-- the split is what follows from the ledger's outcome
+pub from-ledger : (ledger : List ℕ) (n beside : ℕ) {o : Outcome ℕ} → o ≡ ledgerOf ledger beside → after (figuresFrom ledger n) o ≡ splitOf ledger n beside
+unfolding splitOf
+from-ledger ledger n beside e = ap (after (figuresFrom ledger n)) e
+
+pub totalled : (ledger : List ℕ) (beside total : ℕ) → accepted total ≡ ledgerOf ledger beside → Totalled ledger total
+totalled ledger beside total e = let g = good ledger beside total (sym e) in record { added = g .added; most = g .most }
 
 -- the refusals that the split gives: 9 is not among them
 abbrev pub splitNumbers : List ℕ
 splitNumbers = 2 ∷ 13 ∷ 3 ∷ 4 ∷ 5 ∷ 8 ∷ 10 ∷ []
 
 pub split-gives : (ledger : List ℕ) (n beside : ℕ) → Gives splitNumbers (splitOf ledger n beside)
-unfolding splitOf
+unfolding splitOf figuresFrom
 split-gives ledger n beside =
-    gives-after splitNumbers (drawnFrom ledger n) (ledgerOf ledger beside) (ledger-gives-in splitNumbers tt tt tt tt tt ledger beside)
+    gives-after splitNumbers (figuresFrom ledger n) (ledgerOf ledger beside) (ledger-gives-in splitNumbers tt tt tt tt tt ledger beside)
     (λ total. by-test (Gives splitNumbers) (eqb n 0) (λ z. tt)
     (λ z. rw (settled-is ledger n (eqb-false n 0 z)) (by-test (Gives splitNumbers) (ltb mostInterval (splitLines ledger n .interval)) (λ p. tt) (λ p. tt))))

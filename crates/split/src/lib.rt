@@ -7,7 +7,7 @@ ghost use lib.ListN.{length};
 ghost use Rattle.terms.specs.Numbers.{sum};
 ghost use Rattle.terms.specs.Outcome.{left};
 ghost use Rattle.split.specs.Rounds.{above, upTo, splitLines};
-ghost use Rattle.split.specs.Split.{splitSays, splitOf, sampled, fullMarks, marksOf};
+ghost use Rattle.split.specs.Split.{Totalled, splitSays, figuresFrom, splitOf, sampled, fullMarks, marksOf};
 
 // The final interval and what it leaves: the draws, the sampled lines' total, the full lines and their total.
 pub struct Figures {
@@ -85,6 +85,32 @@ fn split_rest(ledger: &[u64], bound: u64, total: u64, draws: u64) -> Sampled
     split_rest(ledger, interval, rest, left)
 }
 
+// The split of a ledger whose judgement gave this total: 8, 9, 10, or the figures.
+pub fn split_total(ledger: &[u64], n: u64, total: u64) -> SplitAnswer
+    requires { ⌜ Totalled (now ledger) total ⌝ }
+    ensures { λ r. ⌜ splitSays r ≡ figuresFrom (now (ledger .entry)) n total ⌝ }
+{
+    if n == 0 {
+        return SplitAnswer::Refused(Refusal::NoDraws);
+    }
+    let rest = split_rest(ledger, total, total, n);
+    if rest.draws_left == 0 && rest.total > 0 {
+        return SplitAnswer::Refused(Refusal::DrawsUsedUp);
+    }
+    if rest.interval > terms::MOST_INTERVAL {
+        return SplitAnswer::Refused(Refusal::IntervalTooLarge);
+    }
+    let full_lines = n - rest.draws_left;
+    let full_total = total - rest.total;
+    SplitAnswer::Split(Figures {
+        interval: rest.interval,
+        draws_left: rest.draws_left,
+        sampled_total: rest.total,
+        full_lines,
+        full_total,
+    })
+}
+
 // The split without marks: what every step over a split ledger starts from. `beside` is the length of the buffer that is lent
 // with the ledger.
 pub fn split_figures(ledger: &[u64], n: u64, beside: usize) -> SplitAnswer
@@ -92,27 +118,7 @@ pub fn split_figures(ledger: &[u64], n: u64, beside: usize) -> SplitAnswer
 {
     match ledger::judge_ledger(ledger, beside) {
         LedgerAnswer::Refused(why) => SplitAnswer::Refused(why),
-        LedgerAnswer::Total(total) => {
-            if n == 0 {
-                return SplitAnswer::Refused(Refusal::NoDraws);
-            }
-            let rest = split_rest(ledger, total, total, n);
-            if rest.draws_left == 0 && rest.total > 0 {
-                return SplitAnswer::Refused(Refusal::DrawsUsedUp);
-            }
-            if rest.interval > terms::MOST_INTERVAL {
-                return SplitAnswer::Refused(Refusal::IntervalTooLarge);
-            }
-            let full_lines = n - rest.draws_left;
-            let full_total = total - rest.total;
-            SplitAnswer::Split(Figures {
-                interval: rest.interval,
-                draws_left: rest.draws_left,
-                sampled_total: rest.total,
-                full_lines,
-                full_total,
-            })
-        }
+        LedgerAnswer::Total(total) => split_total(ledger, n, total),
     }
 }
 

@@ -2,7 +2,6 @@
 use mathlib.Core.Path.{_≡_, sym, ap, _∙_, subst}
 use Prim.Native.Nat.{ℕ, _+_, _*_, _<_}
 use native.Mathlib.Omega.{arith}
-use native.Mathlib.Nat.{not-le-of-lt}
 use borrow.Author.Needs.{needs}
 use lib.ListN.{getD}
 use Rattle.factors.specs.Rule.{Factor}
@@ -38,10 +37,10 @@ array-read-result c = omega (arith, c .row .ensures, row-lt (c .before .before .
 
 returns : tie.Need-returns
 unfolding table
-returns c = read (c .before .before .args .level) (c .before .before .args .k) (c .row .result) (c .row .ensures) (c .before .if1 .taken)
+returns c = read (c .before .before .args .level) (c .before .before .args .k) (c .row .result) (c .row .ensures) (omega arith)
 
 returns-2 : tie.Need-returns-2
-returns-2 c = record { value = sym (rf-out _ _ (c .if1 .left)); rule = λ h. absurd (not-le-of-lt h (c .if1 .left)) }
+returns-2 c = record { value = sym (rf-out _ _ (omega arith)); rule = λ h. absurd (omega arith) }
 
 pub reliability-spec : {M : Type 1} → statement M
 reliability-spec =

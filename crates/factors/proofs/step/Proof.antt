@@ -1,16 +1,16 @@
 -- `factors::step` meets its contract: both factors are at most 8407, so no difference leaves 64 bits. Assumes nothing.
 use mathlib.Core.Path.{_≡_, sym, ap₂, _∙_}
-use Prim.Native.Nat.{ℕ, _+_, _^_, _≤_, _<_}
+use Prim.Native.Nat.{ℕ, _+_, _≤_}
 use native.Mathlib.Nat.{le-trans, le-of-eq}
 use native.Mathlib.Omega.{arith}
 use borrow.Author.Needs.{needs}
-use lib.IntN.{ℤ, pos, _-ℤ_}
+use lib.IntN.{pos, _-ℤ_}
 use mir.Facts.{toZ-ofZ, toZ-pos}
 use mir.Syntax.{w64}
 use mir.Val.{SFits, toZ, ofZ}
 use Rattle.terms.proofs.Differences.{minus, mag-sub}
 use Rattle.factors.specs.declared.Level.{Level}
-use Rattle.factors.specs.Factors.{rf, Reliability, stepOf}
+use Rattle.factors.specs.Factors.{Reliability}
 use Rattle.factors.proofs.Shape.{rf-top}
 use Rattle.factors.proofs.Steps.{less-hundred, step-at, step-none, step-past}
 use Rattle.factors.proofs.step.Statement.{statement}

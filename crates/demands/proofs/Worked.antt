@@ -5,7 +5,7 @@ use Prim.Native.Nat.{ℕ, _*_}
 use Rattle.terms.specs.Numbers.{divUp}
 use Rattle.ledger.specs.Ledger as ledger
 use Rattle.split.specs.Rounds.{rounds}
-use Rattle.split.specs.Split.{splitOf}
+use Rattle.split.specs.Split.{splitOf, figuresFrom}
 use Rattle.draw.specs.Points.{points, covers}
 use Rattle.draw.specs.Row.{marksFrom, drawMarks}
 use Rattle.draw.specs.Draw.{figuresFor}
@@ -22,7 +22,7 @@ errors = 7 ∷ 0 ∷ 10 ∷ 5 ∷ []
 
 -- over the 40 starts the projections add to 900, against 40 times the true error
 pub all-starts : sumBelow 40 (λ start. sampledIn (projectedFor claims 3 errors start)) ≡ 900
-unfolding sumBelow entered projectOf figuresFor splitOf ledger.ledgerOf ledger.linesOf ledger.linesFrom rounds projectionAt checkedLines checkedFrom checkedLine linesOf linesFrom drawMarks marksFrom total amount covers points divUp
+unfolding sumBelow entered projectOf figuresFor splitOf figuresFrom ledger.ledgerOf ledger.linesOf ledger.linesFrom rounds projectionAt checkedLines checkedFrom checkedLine linesOf linesFrom drawMarks marksFrom total amount covers points divUp
 all-starts = refl
 
 pub against : 40 * sampledError 40 claims errors ≡ 880

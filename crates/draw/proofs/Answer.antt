@@ -12,34 +12,36 @@ use Rattle.split.specs.Split.{splitOf}
 use Rattle.draw.specs.Draw.{startIn, figuresFor, marksAt, drawOf}
 use Rattle.draw.specs.Row.{drawMarks, ones}
 
--- a refusal of the split is given on
-pub from-split : (ledger : List ℕ) (n start beside : ℕ) {k p : ℕ} → refused k p ≡ splitOf ledger n beside → refused k p ≡ figuresFor ledger n start beside
-unfolding figuresFor
-from-split ledger n start beside e = ap (after (startIn start)) e
-
-module _ (ledger : List ℕ) (n start beside : ℕ) (f : Figures) (split : accepted f ≡ splitOf ledger n beside) where
-  goes-on : startIn start f ≡ figuresFor ledger n start beside
-  unfolding figuresFor
-  goes-on = ap (after (startIn start)) split
-
-  pub start-below : start < f .interval → accepted f ≡ figuresFor ledger n start beside
+-- whether the start fits
+module _ (start : ℕ) (f : Figures) where
+  pub start-below : start < f .interval → accepted f ≡ startIn start f
   start-below h =
       let some : f .interval ≡ 0 → ⊥ = λ z. omega arith in
-      sym (simp (ne-eqb _ _ some, lt-ltb _ _ h)) ∙ goes-on
+      sym (simp (ne-eqb _ _ some, lt-ltb _ _ h))
 
-  pub start-none : f .interval ≤ start → start ≤ 0 → accepted f ≡ figuresFor ledger n start beside
+  pub start-none : f .interval ≤ start → start ≤ 0 → accepted f ≡ startIn start f
   start-none h l =
       let none : f .interval ≡ 0 = omega arith in
       let first : start ≡ 0 = omega arith in
-      sym (simp (eq-eqb _ _ none, eq-eqb _ _ first)) ∙ goes-on
+      sym (simp (eq-eqb _ _ none, eq-eqb _ _ first))
 
-  pub start-outside : f .interval ≤ start → 0 < start → refused 11 0 ≡ figuresFor ledger n start beside
+  pub start-outside : f .interval ≤ start → 0 < start → refused 11 0 ≡ startIn start f
   start-outside h l =
       let late : start ≡ 0 → ⊥ = λ z. omega arith in
       ⊎-elim
-      (λ (z : f .interval ≡ 0). sym (simp (eq-eqb _ _ z, ne-eqb _ _ late)) ∙ goes-on)
-      (λ (s : 0 < f .interval). let some : f .interval ≡ 0 → ⊥ = λ z. omega arith in sym (simp (ne-eqb _ _ some, le-ltb _ _ h)) ∙ goes-on)
+      (λ (z : f .interval ≡ 0). sym (simp (eq-eqb _ _ z, ne-eqb _ _ late)))
+      (λ (s : 0 < f .interval). let some : f .interval ≡ 0 → ⊥ = λ z. omega arith in sym (simp (ne-eqb _ _ some, le-ltb _ _ h)))
       (eq-zero-or-pos (f .interval))
+
+-- the split's refusals, and its figures
+module _ (ledger : List ℕ) (n start beside : ℕ) where
+  pub from-split : {k p : ℕ} → refused k p ≡ splitOf ledger n beside → refused k p ≡ figuresFor ledger n start beside
+  unfolding figuresFor
+  from-split e = ap (after (startIn start)) e
+
+  pub from-figures : (f : Figures) → accepted f ≡ splitOf ledger n beside → startIn start f ≡ figuresFor ledger n start beside
+  unfolding figuresFor
+  from-figures f e = ap (after (startIn start)) e
 
 -- the draw's own answer
 module _ (ledger : List ℕ) (n start beside : ℕ) where

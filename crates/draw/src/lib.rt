@@ -1,4 +1,5 @@
 // The draw: step 4, and the walk along the row that the projection shares.
+use split::Figures;
 use split::SplitAnswer;
 use terms::Cent;
 use terms::Item;
@@ -11,7 +12,7 @@ ghost use Rattle.terms.specs.Limits.{mostTotal};
 ghost use Rattle.terms.specs.Outcome.{left};
 ghost use Rattle.split.specs.Split.{splitSays, fullMarks};
 ghost use Rattle.draw.specs.Row.{cents, drawMarks, ones};
-ghost use Rattle.draw.specs.Draw.{drawSays, figuresFor, marksAt, drawOf};
+ghost use Rattle.draw.specs.Draw.{drawSays, startIn, figuresFor, marksAt, drawOf};
 ghost use Rattle.draw.specs.Found.{Before, Found};
 ghost use Rattle.draw.specs.Walk.{stepOf};
 
@@ -106,22 +107,27 @@ fn mark_drawn(ledger: &[u64], interval: u64, start: u64, marks: &mut [u8]) -> u6
     drawn
 }
 
-// The split's figures, or 11 where the start does not fit their interval: what the draw and the projection start from. `beside`
-// is the length of the buffer that is lent with the ledger.
+// The figures, or 11 where the start does not fit their interval.
+pub fn start_in(start: u64, figures: Figures) -> SplitAnswer
+    ensures { λ r. ⌜ splitSays r ≡ startIn start figures ⌝ }
+{
+    if start < figures.interval {
+        return SplitAnswer::Split(figures);
+    }
+    if start > 0 {
+        return SplitAnswer::Refused(Refusal::StartOutOfRange);
+    }
+    SplitAnswer::Split(figures)
+}
+
+// The split's figures, or 11: what the draw and the projection start from. `beside` is the length of the buffer that is lent
+// with the ledger.
 pub fn figures_for(ledger: &[u64], n: u64, start: u64, beside: usize) -> SplitAnswer
     ensures { λ r. ⌜ splitSays r ≡ figuresFor (now (ledger .entry)) n start beside ⌝ }
 {
     match split::split_figures(ledger, n, beside) {
         SplitAnswer::Refused(why) => SplitAnswer::Refused(why),
-        SplitAnswer::Split(figures) => {
-            if start < figures.interval {
-                return SplitAnswer::Split(figures);
-            }
-            if start > 0 {
-                return SplitAnswer::Refused(Refusal::StartOutOfRange);
-            }
-            SplitAnswer::Split(figures)
-        }
+        SplitAnswer::Split(figures) => start_in(start, figures),
     }
 }
 

@@ -47,7 +47,7 @@ before-more (Drawn a) e xs ys = go (ltb 0 e)
     go false = refl
 before-more Full e xs ys = refl
 
-one-more : (ls : List Line) (l : Line) → amountsOf (ls ++ (l ∷ [])) ≡ amountsOf ls ++ amountBefore (l .state) (l .error) []
+pub one-more : (ls : List Line) (l : Line) → amountsOf (ls ++ (l ∷ [])) ≡ amountsOf ls ++ amountBefore (l .state) (l .error) []
 unfolding amountsOf
 one-more [] l = refl
 one-more (x ∷ ls) l = ap (amountBefore (x .state) (x .error)) (one-more ls l) ∙ before-more (x .state) (x .error) (amountsOf ls) (amountBefore (l .state) (l .error) [])

@@ -15,31 +15,30 @@ use Rattle.project.specs.Project.{checkedLine, projectionAt, Ready}
 use Rattle.project.proofs.Passing.{Passed, passed-none, passed-refused, passed-more, passed-end}
 use Rattle.project.proofs.Amounts.{total-more}
 
-pub record Summing (J start : ℕ) (ledger errors : List ℕ) (sums : Projection) (next item : ℕ) : Type 0 where
-  pub passed : List Line
+pub record Summing (J start : ℕ) (ledger errors : List ℕ) (sums : Projection) (next item : ℕ) (passed : List Line) : Type 0 where
   pub at : Passed J start ledger errors next item passed
   pub summed : sums ≡ projectionOf passed
 
-pub summing-none : (J start : ℕ) (ledger errors : List ℕ) → start ≤ J → Summing J start ledger errors (record { full = 0; sampled = 0; m = 0 }) start 0
+pub summing-none : (J start : ℕ) (ledger errors : List ℕ) → start ≤ J → Summing J start ledger errors (record { full = 0; sampled = 0; m = 0 }) start 0 []
 unfolding total
-summing-none J start ledger errors h = record { passed = []; at = passed-none J start ledger errors h; summed = refl }
+summing-none J start ledger errors h = record { at = passed-none J start ledger errors h; summed = refl }
 
 -- the sums of the lines passed and one more
 added-more : (ls : List Line) (k : Line) → addedTo (projectionOf ls) k ≡ projectionOf (ls ++ (k ∷ []))
 added-more ls k = λ i. record { full = sym (total-more fullPart ls k) i; sampled = sym (total-more sampledPart ls k) i; m = sym (total-more countPart ls k) i }
 
-module _ (J start : ℕ) (ledger errors : List ℕ) (sums : Projection) (next item : ℕ) (by : Summing J start ledger errors sums next item) where
+module _ (J start : ℕ) (ledger errors : List ℕ) (sums : Projection) (next item : ℕ) (passed : List Line) (by : Summing J start ledger errors sums next item passed) where
   module _ (more : item < length ledger) where
     pub summing-refused : {n p : ℕ} → refused n p ≡ checkedLine item (lineAt J next (getD ledger item 0) (getD errors item 0)) → refused n p ≡ projectionAt J start ledger errors
     unfolding projectionAt
-    summing-refused e = sym (ap (after (λ lines. accepted (projectionOf lines))) (passed-refused J start ledger errors next item (by .passed) (by .at) more e))
+    summing-refused e = sym (ap (after (λ lines. accepted (projectionOf lines))) (passed-refused J start ledger errors next item passed (by .at) more e))
 
     module _ (k : Line) (e : accepted k ≡ checkedLine item (lineAt J next (getD ledger item 0) (getD errors item 0))) where
-      further : Passed J start ledger errors (stepOf J next (getD ledger item 0)) (item + 1) (by .passed ++ (k ∷ []))
-      further = passed-more J start ledger errors next item (by .passed) (by .at) more k e
+      further : Passed J start ledger errors (stepOf J next (getD ledger item 0)) (item + 1) (passed ++ (k ∷ []))
+      further = passed-more J start ledger errors next item passed (by .at) more k e
 
-      added-now : addedTo sums k ≡ projectionOf (by .passed ++ (k ∷ []))
-      added-now = ap (λ (s : Projection). addedTo s k) (by .summed) ∙ added-more (by .passed) k
+      added-now : addedTo sums k ≡ projectionOf (passed ++ (k ∷ []))
+      added-now = ap (λ (s : Projection). addedTo s k) (by .summed) ∙ added-more passed k
 
       -- what is added fits
       pub summing-fits : Ready J start ledger errors → Fits sums k
@@ -51,9 +50,9 @@ module _ (J start : ℕ) (ledger errors : List ℕ) (sums : Projection) (next it
             m = omega (arith, ap (λ (s : Projection). s .m) e, further .few, ready .few);
           }
 
-      pub summing-more : (sums′ : Projection) (next′ : ℕ) → sums′ ≡ addedTo sums k → next′ ≡ stepOf J next (getD ledger item 0) → Summing J start ledger errors sums′ next′ (item + 1)
-      summing-more sums′ next′ s t = rw t (record { passed = by .passed ++ (k ∷ []); at = further; summed = s ∙ added-now })
+      pub summing-more : (sums′ : Projection) (next′ : ℕ) → sums′ ≡ addedTo sums k → next′ ≡ stepOf J next (getD ledger item 0) → Summing J start ledger errors sums′ next′ (item + 1) (passed ++ (k ∷ []))
+      summing-more sums′ next′ s t = rw t (record { at = further; summed = s ∙ added-now })
 
   pub summing-end : length ledger ≤ item → accepted sums ≡ projectionAt J start ledger errors
   unfolding projectionAt
-  summing-end h = ap accepted (by .summed) ∙ sym (ap (after (λ lines. accepted (projectionOf lines))) (passed-end J start ledger errors next item (by .passed) (by .at) h))
+  summing-end h = ap accepted (by .summed) ∙ sym (ap (after (λ lines. accepted (projectionOf lines))) (passed-end J start ledger errors next item passed (by .at) h))

@@ -1,15 +1,17 @@
--- The row: where an item begins, and the search for the item that covers a cent. Assumes nothing.
+-- The row: where an item begins, the search for the item that covers a cent, and that it is the one that does. Assumes nothing.
 use Prim.Native.Nat.{ℕ, zero, suc, _+_, _-_, _≤_, _<_, zero-le}
 use native.Mathlib.Nat.{sub-zero, zero-add, add-zero, le-of-suc-le-suc, not-suc-le-zero}
 use native.Mathlib.Omega.{arith}
 use native.Mathlib.Numerals.{add-one}
-use mathlib.Core.Path.{_≡_, sym, ap, _∙_}
+use mathlib.Core.Path.{_≡_, refl, sym, ap, _∙_}
 use mathlib.Core.Bool.{Bool, true, false}
 use mathlib.Core.List.{List, [], _∷_}
-use borrow.Author.Tests.{lt-ltb, le-ltb}
+use borrow.Author.Tests.{ltb-true, ltb-false, lt-ltb, le-ltb}
+use lib.Dec.{ltb}
 use lib.ListN.{length, getD, drop, drop-of-length-le}
 use lib.Seq.{drop-cons}
 use Rattle.terms.specs.Numbers.{pick, sum}
+use Rattle.terms.proofs.Tests.{by-test}
 use Rattle.draw.specs.Row.{full, cents, rowCents, firstCent, itemAt}
 
 -- the row is no longer than the ledger's total
@@ -62,9 +64,47 @@ module _ (J : ℕ) (ledger : List ℕ) (c item first : ℕ) (at : Search J ledge
     unfolding itemAt
     search-here l = sym (rw (drop-cons ledger item 0 more, lt-ltb _ _ l) at (at .found) ∙ add-zero item)
 
-    pub search-more : cents J (getD ledger item 0) ≤ c - first → Search J ledger c (item + 1) (first + cents J (getD ledger item 0))
+    search-more : cents J (getD ledger item 0) ≤ c - first → Search J ledger c (item + 1) (first + cents J (getD ledger item 0))
     search-more l = search-from J ledger c (item + 1) _ (omega arith) (omega (arith, at .begins, first-more J ledger item more)) (omega (arith, at .ahead))
 
   pub search-end : length ledger ≤ item → item ≡ itemAt J ledger c
   unfolding itemAt
   search-end h = sym (rw (drop-of-length-le ledger h) at (at .found) ∙ add-zero item)
+
+-- The item at a cent covers it, and no other item does.
+abbrev pub CoversCent : ℕ → List ℕ → ℕ → ℕ → Type 0
+CoversCent J ledger c item = (firstCent J ledger item ≤ c) × (c < firstCent J ledger item + cents J (getD ledger item 0))
+
+pub item-covers : (J : ℕ) (ledger : List ℕ) (c : ℕ) → itemAt J ledger c < length ledger → CoversCent J ledger c (itemAt J ledger c)
+unfolding itemAt rowCents
+item-covers J [] c = λ h. absurd (not-suc-le-zero h)
+item-covers J (v ∷ vs) c =
+    by-test (λ item. item < length (v ∷ vs) → CoversCent J (v ∷ vs) c item) (ltb c (cents J v)) (λ p h. let l = ltb-true c (cents J v) p in (zero-le, omega arith))
+    (λ p h. let l = ltb-false c (cents J v) p in
+    let later = item-covers J vs (c - cents J v) (le-of-suc-le-suc h) in
+    (omega (arith, later .0), omega (arith, later .1)))
+
+pub item-only : (J : ℕ) (ledger : List ℕ) (c item : ℕ) → item < length ledger → CoversCent J ledger c item → item ≡ itemAt J ledger c
+item-only J ledger c item inside covered =
+    search-here J ledger c item (firstCent J ledger item) (search-from J ledger c item (firstCent J ledger item) (omega arith) refl (covered .0)) inside (omega (arith, covered .0, covered .1))
+
+-- The search as the loop makes it, by how far the cent lies ahead of the item's first cent.
+pub record Ahead (J : ℕ) (ledger : List ℕ) (c item ahead : ℕ) : Type 0 where
+  pub near : ahead ≤ c
+  pub at : Search J ledger c item (c - ahead)
+
+pub ahead-from : (J : ℕ) (ledger : List ℕ) (c item first : ℕ) → item ≤ length ledger → first ≡ firstCent J ledger item → first ≤ c → Ahead J ledger c item (c - first)
+ahead-from J ledger c item first h e l = record { near = omega arith; at = search-from J ledger c item (c - (c - first)) h (omega arith) (omega arith) }
+
+module _ (J : ℕ) (ledger : List ℕ) (c item ahead : ℕ) (by : Ahead J ledger c item ahead) where
+  module _ (more : item < length ledger) (taken : ℕ) (takes : taken ≡ cents J (getD ledger item 0)) where
+    pub ahead-here : ahead < taken → item ≡ itemAt J ledger c
+    ahead-here l = search-here J ledger c item (c - ahead) (by .at) more (omega (arith, by .near, takes))
+
+    pub ahead-more : taken ≤ ahead → Ahead J ledger c (item + 1) (ahead - taken)
+    ahead-more l =
+        let e : (c - ahead) + cents J (getD ledger item 0) ≡ c - (ahead - taken) = omega (arith, by .near, takes) in
+        record { near = omega (arith, by .near); at = rw e at (search-more J ledger c item (c - ahead) (by .at) more (omega (arith, by .near, takes))) }
+
+  pub ahead-end : length ledger ≤ item → item ≡ itemAt J ledger c
+  ahead-end h = search-end J ledger c item (c - ahead) (by .at) h

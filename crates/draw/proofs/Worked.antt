@@ -39,10 +39,10 @@ late = (refl, refl)
 abbrev grants : List ℕ
 grants = 500 ∷ 120 ∷ 0 ∷ 80 ∷ 300 ∷ []
 
--- line 3 is drawn at every start below 80
-pub every-start : (start : ℕ) → start < 80 → T (eqb (getD (drawMarks 80 start grants) 3 0) 1)
-unfolding drawMarks marksFrom covers points divUp
-every-start = below-at (λ start. eqb (getD (drawMarks 80 start grants) 3 0) 1) 80 tt
+-- line 3 is drawn at every start
+pub every-start : (start : ℕ) → start < 80 → T (eqb (getD (left (marksAt grants start) [] (figuresFor grants 4 start 5)) 3 0) 1)
+unfolding figuresFor splitOf figuresFrom ledgerOf linesOf linesFrom rounds drawMarks marksFrom covers points divUp
+every-start = below-at (λ start. eqb (getD (left (marksAt grants start) [] (figuresFor grants 4 start 5)) 3 0) 1) 80 tt
 
 pub grants-marks : left (marksAt grants 79) (7 ∷ 7 ∷ 7 ∷ 7 ∷ 7 ∷ []) (figuresFor grants 4 79 5) ≡ 2 ∷ 2 ∷ 0 ∷ 1 ∷ 2 ∷ []
 unfolding figuresFor splitOf figuresFrom ledgerOf linesOf linesFrom rounds drawMarks marksFrom covers points divUp

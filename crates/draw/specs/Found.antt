@@ -1,4 +1,4 @@
--- What the search along the row finds, and what the marking starts from. These are definitions: nothing is assumed.
+-- The search along the row: where it may begin, and what it finds. These are definitions: nothing is assumed.
 use Prim.Native.Nat.{ℕ, _≤_}
 use mathlib.Core.Path.{_≡_}
 use mathlib.Core.List.{List}

@@ -56,18 +56,20 @@ fn item_at(ledger: &[u64], interval: u64, from: Place, cent: Cent) -> Place
 {
     let sought = cent.0;
     let mut item = from.item.0;
-    let mut first = from.first.0;
+    let mut ahead = sought - from.first.0;
     while item < ledger.len() {
         let taken = cents_of(ledger[item], interval);
-        if sought - first < taken {
+        if ahead < taken {
+            let first = sought - ahead;
             return Place {
                 item: Item(item),
                 first: Cent(first),
             };
         }
-        first += taken;
+        ahead -= taken;
         item += 1;
     }
+    let first = sought - ahead;
     Place {
         item: Item(item),
         first: Cent(first),
@@ -118,8 +120,8 @@ pub fn start_in(start: u64, figures: Figures) -> SplitAnswer
     SplitAnswer::Split(figures)
 }
 
-// The split's figures, after its refusals and 11: what the draw and the projection start from. `beside` is the length of the
-// buffer that is lent with the ledger.
+// The split's figures, or 11: what the draw and the projection start from. `beside` is the length of the buffer that is lent
+// with the ledger.
 pub fn figures_for(ledger: &[u64], n: u64, start: u64, beside: usize) -> SplitAnswer
     ensures { λ r. ⌜ splitSays r ≡ figuresFor (now (ledger .entry)) n start beside ⌝ }
 {

@@ -91,9 +91,13 @@ longer ls l (refused n p) = refl
 
 module _ (J start : ℕ) (ledger errors : List ℕ) (next item : ℕ) (passed : List Line) (at : Passed J start ledger errors next item passed) where
   module _ (more : item < length ledger) where
+    later : Outcome (List Line)
+    later = checkedFrom (suc item) (linesWalk J (stepOf J next (getD ledger item 0)) (drop (item + 1) ledger) (drop (item + 1) errors))
+
     here : checkedLines J start ledger errors
-        ≡ after (λ rest. accepted (passed ++ rest)) (after (λ good. after (λ rest. accepted (good ∷ rest)) (checkedFrom (suc item) (linesWalk J (stepOf J next (getD ledger item 0)) (drop (item + 1) ledger) (drop (item + 1) errors)))) (checkedLine item (lineAt J next (getD ledger item 0) (getD errors item 0))))
-    unfolding checkedFrom
+        ≡ after (λ rest. accepted (passed ++ rest))
+        (after (λ good. after (λ rest. accepted (good ∷ rest)) later) (checkedLine item (lineAt J next (getD ledger item 0) (getD errors item 0))))
+    unfolding checkedFrom later
     here = at .whole ∙ rw (walk-on J next ledger errors item more)
 
     -- a line that is refused refuses the whole
@@ -105,7 +109,7 @@ module _ (J start : ℕ) (ledger errors : List ℕ) (next item : ℕ) (passed : 
       known = checked-same item (lineAt J next (getD ledger item 0) (getD errors item 0)) k (sym e)
 
       pub passed-more : Passed J start ledger errors (stepOf J next (getD ledger item 0)) (item + 1) (passed ++ (k ∷ []))
-      unfolding rowCents stepOf
+      unfolding rowCents stepOf later
       passed-more =
           let v = getD ledger item 0 in
           let x = getD errors item 0 in

@@ -4,18 +4,21 @@ use borrow.Author.Needs.{needs}
 use native.Mathlib.Omega.{arith}
 use Prim.Native.Nat.{_-_, _^_, _<_}
 use lib.ListN.{length}
-use Rattle.draw.proofs.Row.{Search, search-from, search-here, search-more, search-end}
+use Rattle.draw.proofs.Row.{Ahead, ahead-from, ahead-here, ahead-more, ahead-end}
 use Rattle.draw.proofs.item_at.Statement.{statement}
 use Rattle.draw.proofs.item_at.Tie as tie
 
 abbrev Inv-loop : tie.InvT-loop
-Inv-loop ledger interval sought item₀ first₀ item first = Search interval ledger sought item first × (sought < 2 ^ 64)
+Inv-loop ledger interval sought item₀ ahead₀ item ahead = Ahead interval ledger sought item ahead × (sought < 2 ^ 64)
 
 abbrev μ-loop : tie.MeasureT-loop
-μ-loop ledger interval sought item₀ first₀ item first = length ledger - item
+μ-loop ledger interval sought item₀ ahead₀ item ahead = length ledger - item
+
+sub-ahead : tie.Need-sub-ahead Inv-loop μ-loop
+sub-ahead c = omega arith
 
 loop-holds : tie.Need-loop-holds Inv-loop μ-loop
-loop-holds c = let from = c .before .pre in (search-from _ _ _ _ _ (from .inside) (from .begins) (from .ahead), search needs)
+loop-holds c = let from = c .before .before .pre in (ahead-from _ _ _ _ _ (from .inside) (from .begins) (from .ahead), search needs)
 
 mul-cents-of : tie.Need-mul-cents-of Inv-loop μ-loop
 mul-cents-of c = search needs
@@ -26,17 +29,16 @@ shared-slice-read-cents-of c = search needs
 cents-of-requires : tie.Need-cents-of-requires Inv-loop μ-loop
 cents-of-requires c κs = search needs
 
-sub-if1 : tie.Need-sub-if1 Inv-loop μ-loop
-sub-if1 c = omega arith
+sub-first : tie.Need-sub-first Inv-loop μ-loop
+sub-first c = omega arith
 
 returns : tie.Need-returns Inv-loop μ-loop
 returns c =
-    let at = c .before .before .before .before .loop .inv .0 in
-    let within = rw (c .before .cents-of .ensures) at (c .if1 .taken) in
-    record { item = search-here _ _ _ _ _ at (c .before .before .before .loop-test .taken) within; begins = at .begins }
-
-add-first : tie.Need-add-first Inv-loop μ-loop
-add-first c = omega arith
+    let by = c .before .before .before .before .loop .inv .0 in
+    record {
+      item = ahead-here _ _ _ _ _ by (c .before .before .before .loop-test .taken) _ (c .before .cents-of .ensures) (c .if1 .taken);
+      begins = by .at .begins;
+    }
 
 add-item : tie.Need-add-item Inv-loop μ-loop
 add-item c = omega arith
@@ -46,12 +48,14 @@ loop-less c = omega arith
 
 loop-again : tie.Need-loop-again Inv-loop μ-loop
 loop-again c =
-    let at = c .before .before .before .before .loop .inv in
-    let passed = rw (c .before .cents-of .ensures) at (c .if1 .left) in
-    (rw (c .before .cents-of .ensures) (search-more _ _ _ _ _ (at .0) (c .before .before .before .loop-test .taken) passed), at .1)
+    let by = c .before .before .before .before .loop .inv in
+    (ahead-more _ _ _ _ _ (by .0) (c .before .before .before .loop-test .taken) _ (c .before .cents-of .ensures) (c .if1 .left), by .1)
+
+sub-first-2 : tie.Need-sub-first-2 Inv-loop μ-loop
+sub-first-2 c = omega arith
 
 returns-2 : tie.Need-returns-2 Inv-loop μ-loop
-returns-2 c = let at = c .before .loop .inv .0 in record { item = search-end _ _ _ _ _ at (c .loop-test .left); begins = at .begins }
+returns-2 c = let by = c .before .loop .inv .0 in record { item = ahead-end _ _ _ _ _ by (c .loop-test .left); begins = by .at .begins }
 
 pub item-at-spec : {M : Type 1} → statement M
 item-at-spec =
@@ -59,14 +63,15 @@ item-at-spec =
     (tie.spec
     Inv-loop
     μ-loop
+    sub-ahead
     loop-holds
     mul-cents-of
     shared-slice-read-cents-of
     cents-of-requires
-    sub-if1
+    sub-first
     returns
-    add-first
     add-item
     loop-less
     loop-again
+    sub-first-2
     returns-2)

@@ -1,5 +1,5 @@
 -- What the reader and the writer promise: the answer, and every lent buffer afterwards. These are definitions: nothing is assumed.
-use Prim.Native.Nat.{ℕ}
+use Prim.Native.Nat.{ℕ, _≤_}
 use mathlib.Core.Path.{_≡_}
 use mathlib.Core.Bool.{Bool, true, false, _&&_}
 use mathlib.Core.List.{List, [], _∷_, _++_}
@@ -36,6 +36,12 @@ unfoldable pub readOf : List ℕ → ℕ → ℕ → ℕ → Outcome Content
 readOf file words values errors =
     pick (ltb words mostWords) (refused 18 mostWords)
     (pick (ltb values mostFileLines) (refused 18 mostFileLines) (pick (ltb errors mostFileLines) (refused 18 mostFileLines) (decode file)))
+
+-- room for every legal file
+pub record Rooms (w v e : List ℕ) : Type 0 where
+  pub words : mostWords ≤ length w
+  pub values : mostFileLines ≤ length v
+  pub errors : mostFileLines ≤ length e
 
 -- the reader's promise: words, values and errors are the buffers before, words′, values′ and errors′ after
 pub record ReadPromise (file words values errors : List ℕ) (r : ReadAnswer) (words′ values′ errors′ : List ℕ) : Type 0 where

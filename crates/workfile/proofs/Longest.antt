@@ -1,16 +1,15 @@
 -- The longest legal file has 45,663 bytes, and the first 45,664 bytes of an input decide it. Assumes nothing.
 use Prim.Native.Nat.{ℕ, zero, suc, _+_, _-_, _<_, _≤_}
 use mathlib.Core.Path.{_≡_, refl, ap, ap₂, subst, sym, _∙_}
-use mathlib.Core.List.{List, [], _∷_}
+use mathlib.Core.List.{List}
 use mathlib.Core.Bool.{Bool, true, false, _&&_}
 use native.Mathlib.Omega.{arith}
-use lib.Dec.{T, eqb, leb}
-use borrow.Author.Tests.{le-leb, ne-eqb, eqb-true}
+use lib.Dec.{eqb, leb}
+use borrow.Author.Tests.{le-leb, ne-eqb}
 use lib.ListN.{length, take, drop, getD, length-drop}
 use lib.Seq.{getD-take, length-take-le}
 use Rattle.terms.specs.Outcome.{Outcome, accepted, refused}
 use Rattle.terms.specs.Numbers.{pick}
-use Rattle.terms.proofs.Outcomes.{Gives, among}
 use Rattle.workfile.specs.Numbers.{Bytes, littleEndian}
 use Rattle.workfile.specs.Content.{Content, longestFile, encode}
 use Rattle.workfile.specs.Decode.{size, isEnd, recordOf, tallyOf, fits, grow, closed, run, hasPlan, planOf, start, decode}
@@ -20,7 +19,7 @@ use Rattle.workfile.proofs.Records.{whole-size, cut-record, drop-take}
 use Rattle.workfile.proofs.Rules.{rule, some-size}
 use Rattle.workfile.proofs.Lists.{few-errors}
 use Rattle.workfile.proofs.Growing.{SoFar, at-first, one-more, front, front-short, length-front, length-encode}
-use Rattle.workfile.proofs.OneFile.{Counts, one-file, read-counts, decode-gives}
+use Rattle.workfile.proofs.OneFile.{Counts, one-file, read-counts, refused-so}
 
 -- no legal file is longer
 pub no-longer : (f : List ℕ) (d : Content) → Bytes f → decode f ≡ accepted d → length f ≤ longestFile
@@ -30,17 +29,11 @@ no-longer f d b e =
 
 -- so a longer input is refused
 pub longer-refused : (f : List ℕ) → Bytes f → longestFile < length f → (at : ℕ) × (decode f ≡ refused 17 at)
-longer-refused f b h = go (decode f) refl (decode-gives f)
+longer-refused f b h = go (decode f) refl
   where
-    seventeen : (n at : ℕ) → T (among n (17 ∷ [])) → _≡_ {A = Outcome Content} (refused n at) (refused 17 at)
-    seventeen n at g = ap (λ (m : ℕ). refused m at) (eqb-true n 17 (is (eqb n 17) g))
-      where
-        is : (t : Bool) → T (pick t true false) → t ≡ true
-        is true g = refl
-        is false g = absurd g
-    go : (o : Outcome Content) → decode f ≡ o → Gives (17 ∷ []) o → (at : ℕ) × (decode f ≡ refused 17 at)
-    go (accepted d) e g = absurd (omega (arith, no-longer f d b e))
-    go (refused n at) e g = (at, e ∙ seventeen n at g)
+    go : (o : Outcome Content) → decode f ≡ o → (at : ℕ) × (decode f ≡ refused 17 at)
+    go (accepted d) e = absurd (omega (arith, no-longer f d b e))
+    go (refused n at) e = (at, refused-so f n at e)
 
 -- two choices by one test are the same where their arms are
 by-arms : {A : Type 0} (test : Bool) {x x′ y y′ : A} → (test ≡ true → x ≡ x′) → (test ≡ false → y ≡ y′) → pick test x y ≡ pick test x′ y′

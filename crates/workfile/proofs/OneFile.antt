@@ -5,12 +5,12 @@ use mathlib.Core.Path.{_≡_, refl, ap, ap₂, subst, sym, _∙_}
 use mathlib.Core.List.{List, [], _∷_, _++_, append-assoc}
 use mathlib.Core.Bool.{Bool, true, false}
 use native.Mathlib.Omega.{arith}
-use lib.Dec.{eqb, leb}
+use lib.Dec.{T, eqb, leb}
 use lib.Seq.{getD-drop, take-add}
 use borrow.Author.Tests.{eqb-true, leb-true}
 use lib.ListN.{length, take, drop, getD, take-append-drop, length-append, length-drop, drop-of-length-le}
 use Rattle.terms.specs.Outcome.{Outcome, accepted, refused}
-use Rattle.terms.specs.Numbers.{sum}
+use Rattle.terms.specs.Numbers.{pick, sum}
 use Rattle.terms.proofs.Outcomes.{never, Gives}
 use Rattle.terms.proofs.Tests.{by-test}
 use Rattle.workfile.specs.Numbers.{Bytes, littleEndian, bytes}
@@ -127,3 +127,10 @@ run-gives (suc k) c at bs =
 pub decode-gives : (f : List ℕ) → Gives (17 ∷ []) (decode f)
 unfolding decode
 decode-gives f = by-test (Gives (17 ∷ [])) (hasPlan f) (λ _. run-gives (length f) (start (planOf f)) 18 (drop 18 f)) (λ _. tt)
+
+pub refused-so : (f : List ℕ) (n at : ℕ) → decode f ≡ refused n at → decode f ≡ refused 17 at
+refused-so f n at e = e ∙ ap (λ (m : ℕ). refused m at) (eqb-true n 17 (is (eqb n 17) (subst (Gives (17 ∷ [])) e (decode-gives f))))
+  where
+    is : (t : Bool) → T (pick t true false) → t ≡ true
+    is true g = refl
+    is false g = absurd g

@@ -16,7 +16,7 @@ use Rattle.terms.proofs.Tests.{by-test}
 use Rattle.workfile.specs.Numbers.{Bytes}
 use Rattle.workfile.specs.Content.{Content, mostWords, mostFileLines, sumBound, encode}
 use Rattle.workfile.specs.Decode.{decode}
-use Rattle.workfile.specs.Promises.{over, readSays, counted, countsOf, readOf, Rooms, ReadPromise, writeSays, hasFile, writeOf, contentWith, WritePromise}
+use Rattle.workfile.specs.Promises.{over, readSays, counted, countsOf, readOf, Rooms, ReadPromise, writeSays, hasFile, writeOf, planWith, contentWith, WritePromise}
 use Rattle.workfile.specs.declared.Plan.{Plan}
 use Rattle.workfile.specs.declared.Contents.{Contents}
 use Rattle.workfile.specs.declared.ReadAnswer.{ReadAnswer}
@@ -95,7 +95,7 @@ read-writes f d room b e h =
 
 -- what the buffers hold after an answer with these counts
 abbrev pub heldBy : Contents → List ℕ → List ℕ → List ℕ → Content
-heldBy k w v e = contentWith (record { level = k .level; te = k .te; ae = k .ae }) (take (k .words) w) (take (k .lines) v) (take (k .lines) e)
+heldBy k w v e = contentWith (planWith (k .level) (k .te) (k .ae)) (take (k .words) w) (take (k .lines) v) (take (k .lines) e)
 
 front-of : (new old : List ℕ) (n : ℕ) → length new ≡ n → take n (over new old) ≡ new
 front-of new old n e = take-at new (drop (length new) old) n e
@@ -138,7 +138,7 @@ written-is-read {plan} {ws} {vs} {es} {file} {file′} {w} {v} {e} n f p a m q =
 -- what was read of a legal file, handed to the writer with room enough, is written as that file
 pub read-is-written : {f w v e w′ v′ e′ file file′ : List ℕ} {r : ReadAnswer} {q : WriteAnswer} (k : Contents)
     → Bytes f → ReadPromise f w v e r w′ v′ e′ → readSays r ≡ accepted k → length f ≤ length file
-    → WritePromise (record { level = k .level; te = k .te; ae = k .ae }) (take (k .words) w′) (take (k .lines) v′) (take (k .lines) e′) file q file′
+    → WritePromise (planWith (k .level) (k .te) (k .ae)) (take (k .words) w′) (take (k .lines) v′) (take (k .lines) e′) file q file′
     → (writeSays q ≡ accepted (length f)) × (file′ ≡ over f file)
 read-is-written {f} {w} {v} {e} {w′} {v′} {e′} {file} k b p a room q =
     let o = read-writes f (heldBy k w′ v′ e′) (length file) b (held k p a) room in

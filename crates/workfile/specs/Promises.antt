@@ -65,6 +65,10 @@ writeOf c room =
     pick (eqb (length (c .errors)) (length (c .values)))
     (pick (hasFile c) (pick (ltb room (length (encode c))) (refused 18 (length (encode c))) (accepted (encode c))) (refused 19 0)) (refused 13 0)
 
+-- what is handed to the writer
+abbrev pub planWith : ℕ → ℕ → ℕ → Plan
+planWith level te ae = record { level = level; te = te; ae = ae }
+
 abbrev pub contentWith : Plan → List ℕ → List ℕ → List ℕ → Content
 contentWith plan words values errors = record { plan = plan; words = words; values = values; errors = errors }
 

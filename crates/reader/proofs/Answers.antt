@@ -3,7 +3,6 @@ use Prim.Native.Nat.{ℕ, _<_, _≤_}
 use mathlib.Core.Path.{_≡_, refl, ap, sym, _∙_}
 use mathlib.Core.List.{List}
 use native.Mathlib.Omega.{arith}
-use borrow.Author.Tests.{lt-ltb, le-ltb}
 use lib.ListN.{length}
 use Rattle.terms.specs.Outcome.{Outcome, accepted, refused, refusedBy, left}
 use Rattle.terms.specs.declared.Refusal.{Refusal}
@@ -14,27 +13,27 @@ use Rattle.workfile.specs.Promises.{over, countsOf, readOf, Rooms, ReadPromise}
 use Rattle.workfile.specs.declared.Contents.{Contents}
 use Rattle.workfile.specs.declared.ReadAnswer.the-variants.{Read, Refused}
 use Rattle.workfile.proofs.OneFile.{refused-so}
-use Rattle.workfile.proofs.Promises.{roomy}
+use Rattle.workfile.proofs.Promises.{short-words, short-values, short-errors, roomy}
 use Rattle.reader.specs.Steps.{checkOf, IsLegal, Stored}
 use Rattle.reader.specs.declared.Checked.the-variants.{Legal, Broken}
 
 module _ (f w v e : List ℕ) where
   refuse : (why : Refusal) → readOf f (length w) (length v) (length e) ≡ refusedBy why → ReadPromise f w v e (Refused why) w v e
-  refuse why q = record { answer = sym (ap countsOf q); words-left = sym (ap (left (λ c. over (c .words) w) w) q)
-      ; values-left = sym (ap (left (λ c. over (c .values) v) v) q); errors-left = sym (ap (left (λ c. over (c .errors) e) e) q) }
+  refuse why q = record {
+    answer = sym (ap countsOf q);
+    words-left = sym (ap (left (λ c. over (c .words) w) w) q);
+    values-left = sym (ap (left (λ c. over (c .values) v) v) q);
+    errors-left = sym (ap (left (λ c. over (c .errors) e) e) q);
+  }
 
   pub few-words : length w < mostWords → ReadPromise f w v e (Refused (RoomTooShort mostWords)) w v e
-  unfolding readOf
-  few-words h = refuse (RoomTooShort mostWords) (rw (lt-ltb (length w) mostWords h))
+  few-words h = refuse (RoomTooShort mostWords) (short-words f (length w) (length v) (length e) h)
 
   pub few-values : mostWords ≤ length w → length v < mostFileLines → ReadPromise f w v e (Refused (RoomTooShort mostFileLines)) w v e
-  unfolding readOf
-  few-values a h = refuse (RoomTooShort mostFileLines) (rw (le-ltb (length w) mostWords a, lt-ltb (length v) mostFileLines h))
+  few-values a h = refuse (RoomTooShort mostFileLines) (short-values f (length w) (length v) (length e) a h)
 
   pub few-errors : mostWords ≤ length w → mostFileLines ≤ length v → length e < mostFileLines → ReadPromise f w v e (Refused (RoomTooShort mostFileLines)) w v e
-  unfolding readOf
-  few-errors a b h =
-      refuse (RoomTooShort mostFileLines) (rw (le-ltb (length w) mostWords a, le-ltb (length v) mostFileLines b, lt-ltb (length e) mostFileLines h))
+  few-errors a b h = refuse (RoomTooShort mostFileLines) (short-errors f (length w) (length v) (length e) a b h)
 
   pub broken-file : (at : ℕ) → Rooms w v e → Broken at ≡ checkOf (decode f) → ReadPromise f w v e (Refused (FileBreaksRule at)) w v e
   broken-file at m q = refuse (FileBreaksRule at) (roomy f w v e m ∙ go (decode f) refl q)
@@ -46,8 +45,12 @@ module _ (f w v e : List ℕ) where
   pub read-file : (k : Contents) (w′ v′ e′ : List ℕ) → Rooms w v e → Stored f w v e k w′ v′ e′ → ReadPromise f w v e (Read k) w′ v′ e′
   read-file k w′ v′ e′ m s =
       let o = sym (roomy f w v e m) in
-      record { answer = s .answer ∙ ap countsOf o; words-left = s .words ∙ ap (left (λ c. over (c .words) w) w) o
-             ; values-left = s .values ∙ ap (left (λ c. over (c .values) v) v) o; errors-left = s .errors ∙ ap (left (λ c. over (c .errors) e) e) o }
+      record {
+        answer = s .answer ∙ ap countsOf o;
+        words-left = s .words ∙ ap (left (λ c. over (c .words) w) w) o;
+        values-left = s .values ∙ ap (left (λ c. over (c .values) v) v) o;
+        errors-left = s .errors ∙ ap (left (λ c. over (c .errors) e) e) o;
+      }
 
 pub is-legal : (f : List ℕ) → Legal ≡ checkOf (decode f) → IsLegal f
 is-legal f q = go (decode f) refl q

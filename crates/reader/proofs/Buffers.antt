@@ -37,8 +37,8 @@ unfolding zeroed
 over-zeroed xs old b h =
     let m : b ≡ length xs + (b - length xs) = omega arith in
     let d : drop b (over xs old) ≡ drop b old =
-        ap (λ (k : ℕ). drop k (over xs old)) m ∙ drop-append-add xs (drop (length xs) old) (b - length xs)
-        ∙ drop-drop (b - length xs) (length xs) old ∙ ap (λ (k : ℕ). drop k old) (sym m) in
+    ap (λ (k : ℕ). drop k (over xs old)) m ∙ drop-append-add xs (drop (length xs) old) (b - length xs)
+    ∙ drop-drop (b - length xs) (length xs) old ∙ ap (λ (k : ℕ). drop k old) (sym m) in
     ap₂ (λ (y z : List ℕ). padTo b y ++ z) (take-append-seam xs (drop (length xs) old)) d
     ∙ ap (λ (k : ℕ). padTo b xs ++ drop k old) (sym (length-pad b xs h))
 

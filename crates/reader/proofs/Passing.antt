@@ -80,7 +80,7 @@ tally-grow c (Value v) h i =
     λ j. record { words = length (c .words); lines = e j; sum = s j; «next_line» = length (c .errors) }
 tally-grow c (ErrorOf l x) h i =
     let e : length (padTo l (c .errors) ++ (x ∷ [])) ≡ l + 1 =
-        length-append (padTo l (c .errors)) (x ∷ []) ∙ ap (λ (n : ℕ). n + 1) (length-pad l (c .errors) (h .0)) in
+    length-append (padTo l (c .errors)) (x ∷ []) ∙ ap (λ (n : ℕ). n + 1) (length-pad l (c .errors) (h .0)) in
     λ j. record { words = length (c .words); lines = length (c .values); sum = sum (c .values); «next_line» = e j }
 tally-grow c (End n s) h i = clash (cc)
 tally-grow c Nothing h i = absurd h
@@ -103,8 +103,12 @@ unfolding recordAt
 advance f at c r zero w n s e g i = absurd (omega arith)
 advance f at c r (suc k) w n s e g i =
     let z : size r ≤ length f - at = rw (e, length-drop) at (whole-size (drop at f)) in
-    record { fuel = k; within = omega arith; enough = omega (arith, some-size (tallyOf c) r (rule (tallyOf c) r g))
-           ; same = s ∙ run-on k c at (drop at f) r e g i ∙ ap (λ (l : List ℕ). run k (grow c r) (at + size r) l) (drop-drop (size r) at f) }
+    record {
+      fuel = k;
+      within = omega arith;
+      enough = omega (arith, some-size (tallyOf c) r (rule (tallyOf c) r g));
+      same = s ∙ run-on k c at (drop at f) r e g i ∙ ap (λ (l : List ℕ). run k (grow c r) (at + size r) l) (drop-drop (size r) at f);
+    }
 
 -- where a pass stands whose counts are t
 pub record Stands (f : List ℕ) (at : ℕ) (t : Tally) : Type 0 where
@@ -138,9 +142,10 @@ pub onward-at : (f : List ℕ) (at : ℕ) (t u : Tally) (n : ℕ) (c : Content) 
 onward-at f at t u n c s p e =
     let r = recordAt f at in
     let w : Went (tallyOf c) r u n = rw (← s) at (went t r u n e) in
-    let h = rule (tallyOf c) r (w .fit) in
-    (tally-grow c r h (w .not-end) ∙ w .count
-    , (rw (← (w .long)) (advance f at c r (p .fuel) (p .within) (p .enough) (p .same) refl (w .fit) (w .not-end)), h))
+    let h = rule (tallyOf c) r (w .fit) in (
+      tally-grow c r h (w .not-end) ∙ w .count,
+      (rw (← (w .long)) (advance f at c r (p .fuel) (p .within) (p .enough) (p .same) refl (w .fit) (w .not-end)), h),
+    )
 
 pub onward : (f : List ℕ) (at : ℕ) (t u : Tally) (n : ℕ) → Stands f at t → judged t (recordAt f at) ≡ Next u n → Stands f (at + n) u
 onward f at t u n s e =
@@ -176,10 +181,13 @@ at-end f at t s e =
     let c = s .read in
     let z = is-end (recordAt f at) (e .is-last) in
     let g : fits (tallyOf c) (End (z .0) (z .1)) ≡ true = ap₂ fits (s .tally) (sym (z .2)) ∙ e .fit in
-    let l : length (drop at f) ≡ length f - at = length-drop at f in
-    (z .0, z .1, z .2
-    , s .place .same ∙ stop-end (s .place .fuel) c at (drop at f) (z .0) (z .1) (omega (arith, s .place .enough)) (z .2) g
-      ∙ ap (λ (n : ℕ). pick (eqb n 13) (accepted (grow c (End (z .0) (z .1)))) (refused 17 (at + 13))) l)
+    let l : length (drop at f) ≡ length f - at = length-drop at f in (
+      z .0,
+      z .1,
+      z .2,
+      s .place .same ∙ stop-end (s .place .fuel) c at (drop at f) (z .0) (z .1) (omega (arith, s .place .enough)) (z .2) g
+          ∙ ap (λ (n : ℕ). pick (eqb n 13) (accepted (grow c (End (z .0) (z .1)))) (refused 17 (at + 13))) l,
+    )
 
 module _ (f : List ℕ) (at : ℕ) (t : Tally) (s : Stands f at t) (e : judged t (recordAt f at) ≡ Last) where
   pub closes : length f - at ≡ 13 → Legal ≡ checkOf (decode f)

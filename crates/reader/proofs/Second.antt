@@ -65,12 +65,13 @@ pub record Holds (c : Content) (p : Plan) (ws vs es w v e : List ℕ) : Type 0 w
 
 holds-grow : (c : Content) (r : FileRecord) (p : Plan) (ws vs es w v e w′ v′ e′ : List ℕ) → Rule (tallyOf c) r → Rooms ws vs es
     → Holds c p ws vs es w v e → Put (tallyOf c) r w v e w′ v′ e′ → Holds (grow c r) p ws vs es w′ v′ e′
-holds-grow c r p ws vs es w v e w′ v′ e′ h m s q = record
-    { so-far = one-more c r h (s .so-far)
-    ; plan = plan-grow c r ∙ s .plan
-    ; words = q .words ∙ ap (putWords (tallyOf c) r) (s .words) ∙ words-grow c r ws h (m .words)
-    ; values = q .values ∙ ap (putValues (tallyOf c) r) (s .values) ∙ values-grow c r vs h (m .values)
-    ; errors = q .errors ∙ ap (putErrors (tallyOf c) r) (s .errors) ∙ errors-grow c r es h (s .so-far) (m .errors) }
+holds-grow c r p ws vs es w v e w′ v′ e′ h m s q = record {
+  so-far = one-more c r h (s .so-far);
+  plan = plan-grow c r ∙ s .plan;
+  words = q .words ∙ ap (putWords (tallyOf c) r) (s .words) ∙ words-grow c r ws h (m .words);
+  values = q .values ∙ ap (putValues (tallyOf c) r) (s .values) ∙ values-grow c r vs h (m .values);
+  errors = q .errors ∙ ap (putErrors (tallyOf c) r) (s .errors) ∙ errors-grow c r es h (s .so-far) (m .errors);
+}
 
 -- the same lengths as before
 pub record Lengths (ws vs es w v e : List ℕ) : Type 0 where
@@ -81,10 +82,11 @@ pub record Lengths (ws vs es w v e : List ℕ) : Type 0 where
 pub lengths : {c : Content} {p : Plan} {ws vs es w v e : List ℕ} → Rooms ws vs es → Holds c p ws vs es w v e → Lengths ws vs es w v e
 lengths {c} {p} {ws} {vs} {es} m s =
     let f = s .so-far in
-    record
-    { words = ap length (s .words) ∙ length-over (c .words) ws (omega (arith, m .words, f .few-words))
-    ; values = ap length (s .values) ∙ length-over (c .values) vs (omega (arith, m .values, f .few-lines))
-    ; errors = ap length (s .errors) ∙ length-over (c .errors) es (omega (arith, m .errors, f .few-lines, f .sound)) }
+    record {
+      words = ap length (s .words) ∙ length-over (c .words) ws (omega (arith, m .words, f .few-words));
+      values = ap length (s .values) ∙ length-over (c .values) vs (omega (arith, m .values, f .few-lines));
+      errors = ap length (s .errors) ∙ length-over (c .errors) es (omega (arith, m .errors, f .few-lines, f .sound));
+    }
 
 -- where the second pass stands
 pub record Storing (f ws vs es : List ℕ) (p : Plan) (at : ℕ) (t : Tally) (w v e : List ℕ) : Type 0 where
@@ -99,8 +101,12 @@ legal-plan f a = plan-there f (a .0) (a .1)
 pub sets-out : (f ws vs es : List ℕ) (p : Plan) → IsLegal f → planOf f ≡ p → Storing f ws vs es p 18 (record { words = 0; lines = 0; sum = 0; «next_line» = 0 }) ws vs es
 sets-out f ws vs es p a q =
     let h = legal-plan f a in
-    record { read = start (planOf f); tally = refl; place = at-start f (h .1) (h .0)
-           ; kept = record { so-far = at-first (planOf f); plan = q; words = refl; values = refl; errors = refl } }
+    record {
+      read = start (planOf f);
+      tally = refl;
+      place = at-start f (h .1) (h .0);
+      kept = record { so-far = at-first (planOf f); plan = q; words = refl; values = refl; errors = refl };
+    }
 
 -- Z was last, since the file is legal
 closed-so : (b : Bool) (c : Content) (n : ℕ) (d : Content) → pick b (accepted c) (refused 17 n) ≡ accepted d → accepted c ≡ accepted d
@@ -116,17 +122,22 @@ module _ {f ws vs es : List ℕ} {p : Plan} {at : ℕ} {t : Tally} {w v e : List
   pub ready : fits t r ≡ true → Rooms w v e × (Rule t r × ((t .«next_line» ≤ t .lines) × (t .lines ≤ 2048)))
   ready h =
       let l = lengths m (s .kept) in
-      let k = s .kept .so-far in
-      (record { words = omega (arith, l .words, m .words); values = omega (arith, l .values, m .values); errors = omega (arith, l .errors, m .errors) }
-      , (rule t r h, subst (λ (u : Tally). (u .«next_line» ≤ u .lines) × (u .lines ≤ 2048)) (s .tally) (k .sound, k .few-lines)))
+      let k = s .kept .so-far in (
+        record { words = omega (arith, l .words, m .words); values = omega (arith, l .values, m .values); errors = omega (arith, l .errors, m .errors) },
+        (rule t r h, subst (λ (u : Tally). (u .«next_line» ≤ u .lines) × (u .lines ≤ 2048)) (s .tally) (k .sound, k .few-lines)),
+      )
 
   pub goes-on : (u : Tally) (n : ℕ) (w′ v′ e′ : List ℕ) → judged t r ≡ Next u n → Put t r w v e w′ v′ e′ → Storing f ws vs es p (at + n) u w′ v′ e′
   goes-on u n w′ v′ e′ j q =
       let c = s .read in
       let o = onward-at f at t u n c (s .tally) (s .place) (rw er at j) in
       let q′ : Put (tallyOf c) (recordAt f at) w v e w′ v′ e′ = rw (er, ← (s .tally)) at q in
-      record { read = grow c (recordAt f at); tally = o .0; place = o .1 .0
-             ; kept = holds-grow c (recordAt f at) p ws vs es w v e w′ v′ e′ (o .1 .1) m (s .kept) q′ }
+      record {
+        read = grow c (recordAt f at);
+        tally = o .0;
+        place = o .1 .0;
+        kept = holds-grow c (recordAt f at) p ws vs es w v e w′ v′ e′ (o .1 .1) m (s .kept) q′;
+      }
 
   pub arrives : (k : Contents) (w′ v′ e′ : List ℕ) → IsLegal f → judged t r ≡ Last → Put t r w v e w′ v′ e′ → k ≡ contentsWith p t → Stored f ws vs es k w′ v′ e′
   arrives k w′ v′ e′ a j q known =
@@ -137,12 +148,16 @@ module _ {f ws vs es : List ℕ} {p : Plan} {at : ℕ} {t : Tally} {w v e : List
       let y = at-end f at t (record { read = c; tally = s .tally; place = s .place }) x in
       let d = grow c (End (y .0) (y .1)) in
       let h : Holds d p ws vs es w′ v′ e′ =
-          subst (λ (z : FileRecord). Holds (grow c z) p ws vs es w′ v′ e′) (y .2)
-          (holds-grow c (recordAt f at) p ws vs es w v e w′ v′ e′ (rule (tallyOf c) (recordAt f at) g) m (s .kept) q′) in
+      subst (λ (z : FileRecord). Holds (grow c z) p ws vs es w′ v′ e′) (y .2)
+      (holds-grow c (recordAt f at) p ws vs es w v e w′ v′ e′ (rule (tallyOf c) (recordAt f at) g) m (s .kept) q′) in
       let o : decode f ≡ accepted d = a .1 ∙ sym (closed-so (eqb (length f - at) 13) d (at + 13) (a .0) (sym (y .3) ∙ a .1)) in
       let n : k ≡ counted d = known ∙ ap₂ contentsWith (sym (s .kept .plan)) (sym (s .tally)) ∙ sym (counted-end c (y .0) (y .1)) in
-      record { answer = ap accepted n ∙ sym (ap countsOf o); words = h .words ∙ sym (ap (left (λ c. over (c .words) ws) ws) o)
-             ; values = h .values ∙ sym (ap (left (λ c. over (c .values) vs) vs) o); errors = h .errors ∙ sym (ap (left (λ c. over (c .errors) es) es) o) }
+      record {
+        answer = ap accepted n ∙ sym (ap countsOf o);
+        words = h .words ∙ sym (ap (left (λ c. over (c .words) ws) ws) o);
+        values = h .values ∙ sym (ap (left (λ c. over (c .values) vs) vs) o);
+        errors = h .errors ∙ sym (ap (left (λ c. over (c .errors) es) es) o);
+      }
 
   pub never-bad : {A : Type 0} → IsLegal f → judged t r ≡ Bad → A
   never-bad a j =

@@ -2,6 +2,7 @@
 mod records; // records.rt: the numbers and the record at a place of a file
 mod rules; // rules.rt: a record judged by the rules
 mod storing; // storing.rt: the content of a legal file goes to the buffers
+
 use terms::Refusal;
 use workfile::ReadAnswer;
 use workfile::Tally;
@@ -35,7 +36,12 @@ fn check(file: &[u8]) -> Checked
         return Checked::Broken(0);
     }
     let mut at: usize = 18;
-    let mut tally = Tally { words: 0, lines: 0, sum: 0, next_line: 0 };
+    let mut tally = Tally {
+        words: 0,
+        lines: 0,
+        sum: 0,
+        next_line: 0,
+    };
     loop {
         let found = records::record_at(file, at);
         let judged = rules::judge(tally, found);

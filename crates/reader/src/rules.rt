@@ -12,7 +12,15 @@ fn judge_word(tally: Tally, word: u64) -> Judged
 {
     if tally.lines == 0 {
         if tally.words < workfile::MOST_WORDS {
-            return Judged::Next(Tally { words: tally.words + 1, lines: tally.lines, sum: tally.sum, next_line: tally.next_line }, 9);
+            return Judged::Next(
+                Tally {
+                    words: tally.words + 1,
+                    lines: tally.lines,
+                    sum: tally.sum,
+                    next_line: tally.next_line,
+                },
+                9,
+            );
         }
     }
     Judged::Bad
@@ -25,7 +33,15 @@ fn judge_value(tally: Tally, value: u64) -> Judged
     if tally.next_line == 0 {
         if tally.lines < workfile::MOST_FILE_LINES {
             if value <= 0xFFFF_FFFF_FFFF_FFFF - tally.sum {
-                return Judged::Next(Tally { words: tally.words, lines: tally.lines + 1, sum: tally.sum + value, next_line: tally.next_line }, 9);
+                return Judged::Next(
+                    Tally {
+                        words: tally.words,
+                        lines: tally.lines + 1,
+                        sum: tally.sum + value,
+                        next_line: tally.next_line,
+                    },
+                    9,
+                );
             }
         }
     }
@@ -39,7 +55,15 @@ fn judge_error(tally: Tally, line: usize, error: u64) -> Judged
     if tally.next_line <= line {
         if line < tally.lines {
             if 0 < error {
-                return Judged::Next(Tally { words: tally.words, lines: tally.lines, sum: tally.sum, next_line: line + 1 }, 13);
+                return Judged::Next(
+                    Tally {
+                        words: tally.words,
+                        lines: tally.lines,
+                        sum: tally.sum,
+                        next_line: line + 1,
+                    },
+                    13,
+                );
             }
         }
     }

@@ -1,7 +1,7 @@
 // The second pass, over a file that keeps the rules: its content goes to the buffers.
+use crate::Judged;
 use crate::records;
 use crate::rules;
-use crate::Judged;
 use workfile::Contents;
 use workfile::FileRecord;
 use workfile::Plan;
@@ -56,16 +56,31 @@ fn put(tally: Tally, found: FileRecord, words: &mut [u64], values: &mut [u64], e
 fn contents(plan: Plan, tally: Tally) -> Contents
     ensures { λ r. ⌜ r ≡ contentsWith plan tally ⌝ }
 {
-    Contents { level: plan.level, te: plan.te, ae: plan.ae, words: tally.words as u64, lines: tally.lines as u64 }
+    Contents {
+        level: plan.level,
+        te: plan.te,
+        ae: plan.ae,
+        words: tally.words as u64,
+        lines: tally.lines as u64,
+    }
 }
 
 pub fn store(file: &[u8], words: &mut [u64], values: &mut [u64], errors: &mut [u64]) -> Contents
     requires { ⌜ IsLegal (now file) × Rooms (now words) (now values) (now errors) ⌝ }
     ensures { λ r. ⌜ Stored (now (file .entry)) (now (words .entry)) (now (values .entry)) (now (errors .entry)) r (now (words .exit)) (now (values .exit)) (now (errors .exit)) ⌝ }
 {
-    let plan = Plan { level: file[1], te: records::eight_bytes(file, 2), ae: records::eight_bytes(file, 10) };
+    let plan = Plan {
+        level: file[1],
+        te: records::eight_bytes(file, 2),
+        ae: records::eight_bytes(file, 10),
+    };
     let mut at: usize = 18;
-    let mut tally = Tally { words: 0, lines: 0, sum: 0, next_line: 0 };
+    let mut tally = Tally {
+        words: 0,
+        lines: 0,
+        sum: 0,
+        next_line: 0,
+    };
     loop {
         let found = records::record_at(file, at);
         let judged = rules::judge(tally, found);

@@ -28,8 +28,12 @@ pub one-more : (c : Content) (r : FileRecord) → Rule (tallyOf c) r → SoFar c
 unfolding grow
 one-more c (Word w) h s = record { sound = s .sound; few-words = simp length-append (omega (arith, h .1)); few-lines = s .few-lines; total = s .total }
 one-more c (Value v) h s =
-    record { sound = simp length-append (omega (arith, s .sound)); few-words = s .few-words; few-lines = simp length-append (omega (arith, h .1 .0))
-           ; total = simp sum-append (omega (arith, h .1 .1)) }
+    record {
+      sound = simp length-append (omega (arith, s .sound));
+      few-words = s .few-words;
+      few-lines = simp length-append (omega (arith, h .1 .0));
+      total = simp sum-append (omega (arith, h .1 .1));
+    }
 one-more c (ErrorOf l e) h s =
     record { sound = simp (length-append, length-replicate) (omega (arith, h .0, h .1 .0)); few-words = s .few-words; few-lines = s .few-lines; total = s .total }
 one-more c (End n t) h s =
@@ -66,7 +70,7 @@ front c = planBytes (c .plan) ++ bytesOfAll (between c)
 pub front-grow : (c : Content) (r : FileRecord) → Rule (tallyOf c) r → SoFar c → isEnd r ≡ false → front (grow c r) ≡ front c ++ bytesOf r
 front-grow c r h s i =
     let more : bytesOfAll (between (grow c r)) ≡ bytesOfAll (between c) ++ bytesOf r =
-        ap bytesOfAll (between-grow c r h s i) ∙ bytes-append (between c) (r ∷ []) ∙ ap (λ (l : List ℕ). bytesOfAll (between c) ++ l) (append-nil (bytesOf r)) in
+    ap bytesOfAll (between-grow c r h s i) ∙ bytes-append (between c) (r ∷ []) ∙ ap (λ (l : List ℕ). bytesOfAll (between c) ++ l) (append-nil (bytesOf r)) in
     ap₂ (λ p (l : List ℕ). planBytes p ++ l) (plan-grow c r) more ∙ sym (append-assoc (planBytes (c .plan)) (bytesOfAll (between c)) (bytesOf r))
 
 -- Z adds no such record
@@ -86,8 +90,14 @@ length-between c =
     let v = map Value (c .values) in
     let e = errorRecords 0 (c .errors) in
     ap length (bytes-append (w ++ v) e ∙ ap (λ (l : List ℕ). l ++ bytesOfAll e) (bytes-append w v))
-    ∙ omega (arith, length-append (bytesOfAll w ++ bytesOfAll v) (bytesOfAll e), length-append (bytesOfAll w) (bytesOfAll v),
-      length-words (c .words), length-values (c .values), length-errors 0 (c .errors))
+    ∙ omega (
+      arith,
+      length-append (bytesOfAll w ++ bytesOfAll v) (bytesOfAll e),
+      length-append (bytesOfAll w) (bytesOfAll v),
+      length-words (c .words),
+      length-values (c .values),
+      length-errors 0 (c .errors),
+    )
 
 pub length-encode : (c : Content) → length (encode c) ≡ 31 + 9 * length (c .words) + 9 * length (c .values) + 13 * length (errorRecords 0 (c .errors))
 unfolding encode

@@ -82,11 +82,11 @@ first-decide f h =
     let long = length-take-le 45664 f (omega arith) in
     let left = length-drop 18 f in
     let runs : run (length f) (start (planOf f)) 18 (drop 18 f) ≡ run 45664 (start (planOf f)) 18 (take 45646 (drop 18 f)) =
-        cut-run (length f) 45664 (start (planOf f)) 18 (drop 18 f) (at-first (planOf f)) refl (omega arith) (omega arith) (omega arith) in
+    cut-run (length f) 45664 (start (planOf f)) 18 (drop 18 f) (at-first (planOf f)) refl (omega arith) (omega arith) (omega arith) in
     let again : run 45664 (start (planOf f)) 18 (take 45646 (drop 18 f)) ≡ run (length (take 45664 f)) (start (planOf (take 45664 f))) 18 (drop 18 (take 45664 f)) =
-        ap (λ (l : List ℕ). run 45664 (start (planOf f)) 18 l) (sym (drop-take 18 45664 f))
-        ∙ ap₂ (λ (n : ℕ) (p : Plan). run n (start p) 18 (drop 18 (take 45664 f))) (sym long) (sym (plan-cut f)) in
+    ap (λ (l : List ℕ). run 45664 (start (planOf f)) 18 l) (sym (drop-take 18 45664 f))
+    ∙ ap₂ (λ (n : ℕ) (p : Plan). run n (start p) 18 (drop 18 (take 45664 f))) (sym long) (sym (plan-cut f)) in
     let has : hasPlan f ≡ hasPlan (take 45664 f) =
-        ap₂ (λ (x : ℕ) (t : Bool). eqb x 0x50 && t) (sym (getD-take 45664 f 0 0 (omega arith)))
-        (le-leb 18 (length f) (omega arith) ∙ sym (le-leb 18 (length (take 45664 f)) (omega arith))) in
+    ap₂ (λ (x : ℕ) (t : Bool). eqb x 0x50 && t) (sym (getD-take 45664 f 0 0 (omega arith)))
+    (le-leb 18 (length f) (omega arith) ∙ sym (le-leb 18 (length (take 45664 f)) (omega arith))) in
     ap₂ (λ (t : Bool) (o : Outcome Content). pick t o (refused 17 0)) has (runs ∙ again)

@@ -47,19 +47,23 @@ passed : (c : Content) (bs : List ℕ) (d : Content) → Rule (tallyOf c) (recor
 passed c bs d h s i later =
     let r = recordOf bs in
     let rest = drop (size r) bs in
-    record { spelled = λ b. ap (λ (l : List ℕ). front c ++ l) (split bs r b refl) ∙ sym (append-assoc (front c) (bytesOf r) rest)
-               ∙ ap (λ (l : List ℕ). l ++ rest) (sym (front-grow c r h s i)) ∙ later .spelled (λ i. rw getD-drop (b (size r + i)))
-           ; counts = later .counts }
+    record {
+      spelled = λ b. ap (λ (l : List ℕ). front c ++ l) (split bs r b refl) ∙ sym (append-assoc (front c) (bytesOf r) rest)
+          ∙ ap (λ (l : List ℕ). l ++ rest) (sym (front-grow c r h s i)) ∙ later .spelled (λ i. rw getD-drop (b (size r + i)));
+      counts = later .counts;
+    }
 
 -- Z, which is last
 ended : (c : Content) (bs : List ℕ) (n t : ℕ) → recordOf bs ≡ End n t → Rule (tallyOf c) (End n t) → SoFar c → length bs ≡ 13 → Reads c bs (grow c (End n t))
 unfolding encode grow
 ended c bs n t e h s l =
     let last : Bytes bs → bs ≡ bytesOf (End n t) =
-        λ b. split bs (End n t) b e ∙ ap (λ (x : List ℕ). bytesOf (End n t) ++ x) (drop-of-length-le bs {i = 13} (omega arith)) in
+    λ b. split bs (End n t) b e ∙ ap (λ (x : List ℕ). bytesOf (End n t) ++ x) (drop-of-length-le bs {i = 13} (omega arith)) in
     let k = one-more c (End n t) h s in
-    record { spelled = λ b. ap₂ _++_ (sym (front-end c n t)) (last b ∙ ap bytesOf (ap₂ End (h .0) (h .1)))
-           ; counts = record { few-words = k .few-words; few-lines = k .few-lines; total = k .total; same = end-same c n t s h } }
+    record {
+      spelled = λ b. ap₂ _++_ (sym (front-end c n t)) (last b ∙ ap bytesOf (ap₂ End (h .0) (h .1)));
+      counts = record { few-words = k .few-words; few-lines = k .few-lines; total = k .total; same = end-same c n t s h };
+    }
 
 ended-run : (c : Content) (at : ℕ) (bs : List ℕ) (d : Content) → isEnd (recordOf bs) ≡ true → Rule (tallyOf c) (recordOf bs) → SoFar c → length bs ≡ 13
     → grow c (recordOf bs) ≡ d → Reads c bs d
@@ -87,7 +91,7 @@ plan-bytes (x ∷ y ∷ g) b h =
     let l : (x ≡ 0x50) × (18 ≤ suc (suc (length g))) = both (eqb x 0x50) (leb 18 (suc (suc (length g)))) (eqb-true x 0x50) (leb-true 18 (suc (suc (length g)))) h in
     let low : bytes 8 (littleEndian 8 g) ≡ take 8 g = bytes-again 8 g (λ i. b (suc (suc i))) (omega arith) in
     let high : bytes 8 (littleEndian 8 (drop 8 g)) ≡ take 8 (drop 8 g) =
-        bytes-again 8 (drop 8 g) (λ i. rw getD-drop (b (suc (suc (8 + i))))) (rw length-drop (omega arith)) in
+    bytes-again 8 (drop 8 g) (λ i. rw getD-drop (b (suc (suc (8 + i))))) (rw length-drop (omega arith)) in
     ap₂ (λ (k : ℕ) (t : List ℕ). k ∷ y ∷ t) (l .0)
     (sym (ap (λ (t : List ℕ). t ++ drop 16 g) (ap₂ _++_ low high ∙ sym (take-add 8 8 g)) ∙ take-append-drop 16 g))
 

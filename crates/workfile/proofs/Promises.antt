@@ -10,13 +10,13 @@ use borrow.Author.Tests.{eqb-true, ltb-true, ltb-false, leb-true, lt-ltb, le-ltb
 use lib.ListN.{length, take, drop}
 use lib.Seq.{take-at}
 use Rattle.terms.specs.Outcome.{Outcome, accepted, refused, refusedBy, after, left}
-use Rattle.terms.specs.Numbers.{pick, sum}
+use Rattle.terms.specs.Numbers.{sum}
 use Rattle.terms.proofs.Outcomes.{never, after-accepted, refused-once}
 use Rattle.terms.proofs.Tests.{by-test}
 use Rattle.workfile.specs.Numbers.{Bytes}
 use Rattle.workfile.specs.Content.{Content, mostWords, mostFileLines, sumBound, encode}
 use Rattle.workfile.specs.Decode.{decode}
-use Rattle.workfile.specs.Promises.{over, readSays, counted, countsOf, readOf, Rooms, ReadPromise, writeSays, hasFile, writeOf, planWith, contentWith, WritePromise}
+use Rattle.workfile.specs.Promises.{over, readSays, counted, countsOf, withRoom, readOf, Rooms, ReadPromise, writeSays, hasFile, writeOf, planWith, contentWith, WritePromise}
 use Rattle.workfile.specs.declared.Plan.{Plan}
 use Rattle.workfile.specs.declared.Contents.{Contents}
 use Rattle.workfile.specs.declared.ReadAnswer.{ReadAnswer}
@@ -49,6 +49,19 @@ read-once {r₁} {r₂} p q =
 
 pub write-once : {plan : Plan} {w v e f f₁ f₂ : List ℕ} {r₁ r₂ : WriteAnswer} → WritePromise plan w v e f r₁ f₁ → WritePromise plan w v e f r₂ f₂ → (r₁ ≡ r₂) × (f₁ ≡ f₂)
 write-once {r₁} {r₂} p q = (write-answer r₁ r₂ (p .answer ∙ sym (q .answer)), p .file-left ∙ sym (q .file-left))
+
+-- the room comes first
+pub short-words : (f : List ℕ) (w v e : ℕ) → w < mostWords → readOf f w v e ≡ refused 18 mostWords
+unfolding readOf
+short-words f w v e h = rw (lt-ltb w mostWords h)
+
+pub short-values : (f : List ℕ) (w v e : ℕ) → mostWords ≤ w → v < mostFileLines → readOf f w v e ≡ refused 18 mostFileLines
+unfolding readOf
+short-values f w v e a h = rw (le-ltb w mostWords a, lt-ltb v mostFileLines h)
+
+pub short-errors : (f : List ℕ) (w v e : ℕ) → mostWords ≤ w → mostFileLines ≤ v → e < mostFileLines → readOf f w v e ≡ refused 18 mostFileLines
+unfolding readOf
+short-errors f w v e a b h = rw (le-ltb w mostWords a, le-ltb v mostFileLines b, lt-ltb e mostFileLines h)
 
 -- with room enough the file decides
 pub roomy : (f w v e : List ℕ) → Rooms w v e → readOf f (length w) (length v) (length e) ≡ decode f
@@ -90,8 +103,13 @@ read-writes f d room b e h =
     let k = read-counts f d e in
     let o = one-file f d b e in
     let l : length (encode d) ≤ room = rw o h in
-    rw (eq-eqb (length (d .errors)) (length (d .values)) (k .same), le-leb (length (d .words)) mostWords (k .few-words), le-leb (length (d .values)) mostFileLines (k .few-lines)
-       , lt-ltb (sum (d .values)) sumBound (k .total), le-ltb room (length (encode d)) l) (ap accepted o)
+    rw (
+      eq-eqb (length (d .errors)) (length (d .values)) (k .same),
+      le-leb (length (d .words)) mostWords (k .few-words),
+      le-leb (length (d .values)) mostFileLines (k .few-lines),
+      lt-ltb (sum (d .values)) sumBound (k .total),
+      le-ltb room (length (encode d)) l,
+    ) (ap accepted o)
 
 -- what the buffers hold after an answer with these counts
 abbrev pub heldBy : Contents → List ℕ → List ℕ → List ℕ → Content
@@ -108,15 +126,15 @@ held {f} {w} {v} {e} {w′} {v′} {e′} k p a =
     let d = q .0 in
     let n : counted d ≡ k = let z = q .2 in cc in
     let ws : take (k .words) w′ ≡ d .words =
-        ap (take (k .words)) (p .words-left ∙ ap (left (λ c. over (c .words) w) w) (q .1)) ∙ front-of (d .words) w (k .words) (ap (λ (x : Contents). x .words) n) in
+    ap (take (k .words)) (p .words-left ∙ ap (left (λ c. over (c .words) w) w) (q .1)) ∙ front-of (d .words) w (k .words) (ap (λ (x : Contents). x .words) n) in
     let vs : take (k .lines) v′ ≡ d .values =
-        ap (take (k .lines)) (p .values-left ∙ ap (left (λ c. over (c .values) v) v) (q .1)) ∙ front-of (d .values) v (k .lines) (ap (λ (x : Contents). x .lines) n) in
+    ap (take (k .lines)) (p .values-left ∙ ap (left (λ c. over (c .values) v) v) (q .1)) ∙ front-of (d .values) v (k .lines) (ap (λ (x : Contents). x .lines) n) in
     let decoded = read-decodes f (length w) (length v) (length e) d (q .1) in
     let es : take (k .lines) e′ ≡ d .errors =
-        ap (take (k .lines)) (p .errors-left ∙ ap (left (λ c. over (c .errors) e) e) (q .1))
-        ∙ front-of (d .errors) e (k .lines) (read-counts f d decoded .same ∙ ap (λ (x : Contents). x .lines) n) in
+    ap (take (k .lines)) (p .errors-left ∙ ap (left (λ c. over (c .errors) e) e) (q .1))
+    ∙ front-of (d .errors) e (k .lines) (read-counts f d decoded .same ∙ ap (λ (x : Contents). x .lines) n) in
     let same : d ≡ heldBy k w′ v′ e′ =
-        λ i. record { plan = record { level = n i .level; te = n i .te; ae = n i .ae }; words = sym ws i; values = sym vs i; errors = sym es i } in
+    λ i. record { plan = record { level = n i .level; te = n i .te; ae = n i .ae }; words = sym ws i; values = sym vs i; errors = sym es i } in
     decoded ∙ ap accepted same
 
 -- a file that the writer wrote, read with room enough, gives the answer and the buffers of what was handed to the writer
@@ -131,9 +149,12 @@ written-is-read {plan} {ws} {vs} {es} {file} {file′} {w} {v} {e} n f p a m q =
     let long : length bs ≡ n = let z = x .2 in cc in
     let whole : take n file′ ≡ bs = ap (take n) (p .file-left ∙ ap (left (λ b. over b file) file) (x .1)) ∙ front-of bs file n long in
     let o : readOf (take n file′) (length w) (length v) (length e) ≡ accepted c =
-        roomy (take n file′) w v e m ∙ ap decode whole ∙ written-reads c (length file) bs f (x .1) in
-    (q .answer ∙ ap countsOf o, q .words-left ∙ ap (left (λ c. over (c .words) w) w) o
-    , q .values-left ∙ ap (left (λ c. over (c .values) v) v) o, q .errors-left ∙ ap (left (λ c. over (c .errors) e) e) o)
+    roomy (take n file′) w v e m ∙ ap decode whole ∙ written-reads c (length file) bs f (x .1) in (
+      q .answer ∙ ap countsOf o,
+      q .words-left ∙ ap (left (λ c. over (c .words) w) w) o,
+      q .values-left ∙ ap (left (λ c. over (c .values) v) v) o,
+      q .errors-left ∙ ap (left (λ c. over (c .errors) e) e) o,
+    )
 
 -- what was read of a legal file, handed to the writer with room enough, is written as that file
 pub read-is-written : {f w v e w′ v′ e′ file file′ : List ℕ} {r : ReadAnswer} {q : WriteAnswer} (k : Contents)
@@ -154,12 +175,14 @@ read-of-one-file {f} {g} {w₁} {v₁} {e₁} {w₂} {v₂} {e₂} k bf bg p q a
 -- a longer input is read as its first 45,664 bytes are
 first-read : (f : List ℕ) (w v e : ℕ) → 45664 < length f → readOf f w v e ≡ readOf (take 45664 f) w v e
 unfolding readOf
-first-read f w v e h =
-    ap (λ (o : Outcome Content). pick (ltb w mostWords) (refused 18 mostWords)
-    (pick (ltb v mostFileLines) (refused 18 mostFileLines) (pick (ltb e mostFileLines) (refused 18 mostFileLines) o))) (first-decide f h)
+first-read f w v e h = ap (withRoom w v e) (first-decide f h)
 
 pub long-input : {f w v e w′ v′ e′ : List ℕ} {r : ReadAnswer} → 45664 < length f → ReadPromise f w v e r w′ v′ e′ → ReadPromise (take 45664 f) w v e r w′ v′ e′
 long-input {f} {w} {v} {e} h p =
     let o = first-read f (length w) (length v) (length e) h in
-    record { answer = p .answer ∙ ap countsOf o; words-left = p .words-left ∙ ap (left (λ c. over (c .words) w) w) o
-           ; values-left = p .values-left ∙ ap (left (λ c. over (c .values) v) v) o; errors-left = p .errors-left ∙ ap (left (λ c. over (c .errors) e) e) o }
+    record {
+      answer = p .answer ∙ ap countsOf o;
+      words-left = p .words-left ∙ ap (left (λ c. over (c .words) w) w) o;
+      values-left = p .values-left ∙ ap (left (λ c. over (c .values) v) v) o;
+      errors-left = p .errors-left ∙ ap (left (λ c. over (c .errors) e) e) o;
+    }

@@ -60,7 +60,7 @@ two-numbers k x bs b e h =
     let l : 13 ≤ suc (length bs) = leb-true 13 (suc (length bs)) h in
     let low : bytes 4 (littleEndian 4 bs) ≡ take 4 bs = bytes-again 4 bs (λ i. b (suc i)) (omega arith) in
     let high : bytes 8 (littleEndian 8 (drop 4 bs)) ≡ take 8 (drop 4 bs) =
-        bytes-again 8 (drop 4 bs) (λ i. rw getD-drop (b (suc (4 + i)))) (rw length-drop (omega arith)) in
+    bytes-again 8 (drop 4 bs) (λ i. rw getD-drop (b (suc (4 + i)))) (rw length-drop (omega arith)) in
     ap₂ _∷_ (sym (eqb-true x k e)) (ap₂ _++_ low high ∙ sym (take-add 4 8 bs))
 
 -- what holds of the record at the front of some bytes, by its kind
@@ -101,10 +101,10 @@ unfolding recordOf
 cut-record m bs h l =
     let long = length-take-le m bs (omega arith) in
     let low : littleEndian 8 (drop 1 (take m bs)) ≡ littleEndian 8 (drop 1 bs) =
-        ap (littleEndian 8) (drop-take 1 m bs) ∙ number-of-front 8 (m - 1) (drop 1 bs) (omega arith) in
+    ap (littleEndian 8) (drop-take 1 m bs) ∙ number-of-front 8 (m - 1) (drop 1 bs) (omega arith) in
     let short : littleEndian 4 (drop 1 (take m bs)) ≡ littleEndian 4 (drop 1 bs) =
-        ap (littleEndian 4) (drop-take 1 m bs) ∙ number-of-front 4 (m - 1) (drop 1 bs) (omega arith) in
+    ap (littleEndian 4) (drop-take 1 m bs) ∙ number-of-front 4 (m - 1) (drop 1 bs) (omega arith) in
     let high : littleEndian 8 (drop 5 (take m bs)) ≡ littleEndian 8 (drop 5 bs) =
-        ap (littleEndian 8) (drop-take 5 m bs) ∙ number-of-front 8 (m - 5) (drop 5 bs) (omega arith) in
+    ap (littleEndian 8) (drop-take 5 m bs) ∙ number-of-front 8 (m - 5) (drop 5 bs) (omega arith) in
     let kind : getD (take m bs) 0 0 ≡ getD bs 0 0 = getD-take m bs 0 0 (omega arith) in
     rw (kind, long, low, short, high, le-leb 9 m (omega arith), le-leb 13 m h, le-leb 9 (length bs) (omega arith), le-leb 13 (length bs) (omega arith))

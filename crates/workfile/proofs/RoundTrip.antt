@@ -85,9 +85,12 @@ all-errors c i (zero ∷ es) b l h m =
     (q .0, omega (arith, q .1), ap (λ (n : ℕ). padTo n (q .0)) z ∙ q .2 ∙ pad-skip i (c .errors) es l, q .3)
 all-errors c i (suc e ∷ es) b l h m =
     let z : i + suc (length es) ≡ suc i + length es = omega arith in
-    let q = all-errors (grow c (ErrorOf i (suc e))) (suc i) es (λ j. b (suc j)) (simp (length-append, length-replicate) (omega arith)) (omega arith) m in
-    (q .0, omega (arith, q .1), ap (λ (n : ℕ). padTo n (q .0)) z ∙ q .2 ∙ pad-take i (suc e) (c .errors) es l
-    , more {c = c} {r = ErrorOf i (suc e)} (omega arith, b 0) (l, (omega arith, omega arith)) refl (q .3))
+    let q = all-errors (grow c (ErrorOf i (suc e))) (suc i) es (λ j. b (suc j)) (simp (length-append, length-replicate) (omega arith)) (omega arith) m in (
+      q .0,
+      omega (arith, q .1),
+      ap (λ (n : ℕ). padTo n (q .0)) z ∙ q .2 ∙ pad-take i (suc e) (c .errors) es l,
+      more {c = c} {r = ErrorOf i (suc e)} (omega arith, b 0) (l, (omega arith, omega arith)) refl (q .3),
+    )
 
 -- P, as it is read
 plan-again : (p : Plan) (rest : List ℕ) → p .te < 2 ^ 64 → p .ae < 2 ^ 64 → planOf (planBytes p ++ rest) ≡ p

@@ -31,11 +31,15 @@ counted c = record { level = c .plan .level; te = c .plan .te; ae = c .plan .ae;
 abbrev pub countsOf : Outcome Content → Outcome Contents
 countsOf o = after (λ c. accepted (counted c)) o
 
--- what reading gives, with room for so many words, values and errors: 18 with the first number that is not met, then 17
-unfoldable pub readOf : List ℕ → ℕ → ℕ → ℕ → Outcome Content
-readOf file words values errors =
+-- 18 with the first number of entries that is not met, before what the file says
+abbrev pub withRoom : ℕ → ℕ → ℕ → Outcome Content → Outcome Content
+withRoom words values errors reading =
     pick (ltb words mostWords) (refused 18 mostWords)
-    (pick (ltb values mostFileLines) (refused 18 mostFileLines) (pick (ltb errors mostFileLines) (refused 18 mostFileLines) (decode file)))
+    (pick (ltb values mostFileLines) (refused 18 mostFileLines) (pick (ltb errors mostFileLines) (refused 18 mostFileLines) reading))
+
+-- what reading gives, with room for so many words, values and errors
+unfoldable pub readOf : List ℕ → ℕ → ℕ → ℕ → Outcome Content
+readOf file words values errors = withRoom words values errors (decode file)
 
 -- room for every legal file
 pub record Rooms (w v e : List ℕ) : Type 0 where

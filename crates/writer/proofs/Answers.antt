@@ -35,7 +35,7 @@ encode-parts c =
     let w = map Word (c .words) in
     let v = map Value (c .values) in
     let inner : bytesOfAll (between c) ≡ bytesOfAll w ++ bytesOfAll v ++ e =
-        bytes-append (w ++ v) (errorRecords 0 (c .errors)) ∙ ap (λ (l : List ℕ). l ++ e) (bytes-append w v) in
+    bytes-append (w ++ v) (errorRecords 0 (c .errors)) ∙ ap (λ (l : List ℕ). l ++ e) (bytes-append w v) in
     ap₂ (λ (a b : List ℕ). p ++ a ++ b ++ e ++ z) (rows-words (c .words)) (rows-values (c .values))
     ∙ regroup p (bytesOfAll w) (bytesOfAll v) e z ∙ ap (λ (l : List ℕ). p ++ l ++ z) (sym inner)
   where
@@ -43,7 +43,7 @@ encode-parts c =
     regroup p a b e z = simp append-assoc
 
 pub whole-file : (c : Content) {f₀ f₁ f₂ f₃ f₄ f₅ : List ℕ} {n₁ n₂ n₃ n₄ n₅ : ℕ} → Wrote f₀ 0 (planBytes (c .plan)) f₁ n₁ → Wrote f₁ n₁ (rows 0x57 (c .words)) f₂ n₂
-    → Wrote f₂ n₂ (rows 0x4C (c .values)) f₃ n₃ → Wrote f₃ n₃ (errorBytes 0 (c .errors)) f₄ n₄ 
+    → Wrote f₂ n₂ (rows 0x4C (c .values)) f₃ n₃ → Wrote f₃ n₃ (errorBytes 0 (c .errors)) f₄ n₄
     → {total : ℕ} → total ≡ sum (c .values) → Wrote f₄ n₄ (0x5A ∷ (bytes 4 (length (c .values)) ++ bytes 8 total)) f₅ n₅ → Wrote f₀ 0 (encode c) f₅ n₅
 whole-file c {f₄} {f₅} {n₄} {n₅} a b d e t z =
     let end : Wrote f₄ n₄ (bytesOf (closing c)) f₅ n₅ = subst (λ (x : ℕ). Wrote f₄ n₄ (0x5A ∷ (bytes 4 (length (c .values)) ++ bytes 8 x)) f₅ n₅) t z in
@@ -57,9 +57,11 @@ pub record Parts (c : Content) (room : ℕ) : Type 0 where
   pub fits : 31 + 9 * length (c .words) + 9 * length (c .values) + length (errorBytes 0 (c .errors)) ≤ room
 
 pub parts : (c : Content) (room : ℕ) → length (encode c) ≤ room → Parts c room
-parts c room h = record
-    { words = length-rows 0x57 (c .words); values = length-rows 0x4C (c .values)
-    ; fits = omega (arith, length-encode c, length-errorBytes (c .errors)) }
+parts c room h = record {
+  words = length-rows 0x57 (c .words);
+  values = length-rows 0x4C (c .values);
+  fits = omega (arith, length-encode c, length-errorBytes (c .errors));
+}
 
 -- what the total says
 past-sum : (vs : List ℕ) → Past ≡ totalOf vs → ltb (sum vs) sumBound ≡ false
@@ -114,5 +116,7 @@ module _ (p : Plan) (w v e f : List ℕ) where
               let c = contentWith p w v e in
               let g : writeOf c (length f) ≡ accepted (encode c) = legal ∙ rw (le-ltb (length f) n r) in
               let same : m ≡ length (encode c) = d .ends ∙ omega arith in
-              record { answer = ap accepted same ∙ sym (ap (after (λ bs. accepted (length bs))) g)
-                     ; file-left = d .laid ∙ lay-over f (encode c) (omega arith) ∙ sym (ap (left (λ bs. over bs f) f) g) }
+              record {
+                answer = ap accepted same ∙ sym (ap (after (λ bs. accepted (length bs))) g);
+                file-left = d .laid ∙ lay-over f (encode c) (omega arith) ∙ sym (ap (left (λ bs. over bs f) f) g);
+              }

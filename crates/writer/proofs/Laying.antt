@@ -35,9 +35,10 @@ unfolding lay
 wrote-none l at = record { laid = refl; ends = omega arith }
 
 pub wrote-on : {f g h xs ys : List ℕ} {at to next : ℕ} → Wrote f at xs g to → Wrote g to ys h next → Wrote f at (xs ++ ys) h next
-wrote-on {f} {g} {h} {xs} {ys} {at} {to} p q = record
-    { laid = q .laid ∙ ap (λ (l : List ℕ). lay l to ys) (p .laid) ∙ lay-on f at to xs ys (p .ends)
-    ; ends = q .ends ∙ omega (arith, p .ends, length-append xs ys) }
+wrote-on {f} {g} {h} {xs} {ys} {at} {to} p q = record {
+  laid = q .laid ∙ ap (λ (l : List ℕ). lay l to ys) (p .laid) ∙ lay-on f at to xs ys (p .ends);
+  ends = q .ends ∙ omega (arith, p .ends, length-append xs ys);
+}
 
 -- the file is as long as before
 pub long : {f g xs : List ℕ} {at next : ℕ} → Wrote f at xs g next → length g ≡ length f
@@ -56,8 +57,11 @@ module _ {file₀ : List ℕ} {at : ℕ} {all file : List ℕ} {to : ℕ} {rest 
   pub left-on : (xs ys : List ℕ) {file′ : List ℕ} {to′ : ℕ} → rest ≡ xs ++ ys → Wrote file to xs file′ to′ → Left file₀ at all file′ to′ ys
   left-on xs ys {file′} {to′} e w =
       let n : length rest ≡ length xs + length ys = ap length e ∙ length-append xs ys in
-      record { ends = omega (arith, l .ends, w .ends); long = long w ∙ l .long
-             ; same = ap (λ (f : List ℕ). lay f to′ ys) (w .laid) ∙ lay-on file to to′ xs ys (w .ends) ∙ ap (lay file to) (sym e) ∙ l .same }
+      record {
+        ends = omega (arith, l .ends, w .ends);
+        long = long w ∙ l .long;
+        same = ap (λ (f : List ℕ). lay f to′ ys) (w .laid) ∙ lay-on file to to′ xs ys (w .ends) ∙ ap (lay file to) (sym e) ∙ l .same;
+      }
 
   pub left-room : (xs ys : List ℕ) → rest ≡ xs ++ ys → to + length xs ≤ at + length all
   left-room xs ys e = let n : length rest ≡ length xs + length ys = ap length e ∙ length-append xs ys in omega (arith, l .ends)

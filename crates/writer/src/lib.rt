@@ -1,6 +1,7 @@
 // The writer of the working file: it judges the content and the room before it stores anything.
 mod lists; // lists.rt: the records of a list, and what a list adds up to
 mod records; // records.rt: one record
+
 use terms::Refusal;
 use workfile::Plan;
 use workfile::WriteAnswer;
@@ -19,7 +20,14 @@ pub enum Total {
 }
 
 // The whole file, where it has room; answers its length.
-fn put_file(plan: Plan, words: &[u64], values: &[u64], errors: &[u64], total: u64, file: &mut [u8]) -> usize
+fn put_file(
+    plan: Plan,
+    words: &[u64],
+    values: &[u64],
+    errors: &[u64],
+    total: u64,
+    file: &mut [u8],
+) -> usize
     requires { ⌜ (length (encode (contentWith plan (now words) (now values) (now errors))) ≤ length (now file)) × (total ≡ sum (now values)) ⌝ }
     ensures { λ r. ⌜ Wrote (now (file .entry)) 0 (encode (contentWith plan (now (words .entry)) (now (values .entry)) (now (errors .entry)))) (now (file .exit)) r ⌝ }
 {
@@ -31,7 +39,15 @@ fn put_file(plan: Plan, words: &[u64], values: &[u64], errors: &[u64], total: u6
 }
 
 // The file of a content goes to the buffer; 13, then 19, then 18, and a refused call changes nothing.
-pub fn write(level: u8, te: u64, ae: u64, words: &[u64], values: &[u64], errors: &[u64], file: &mut [u8]) -> WriteAnswer
+pub fn write(
+    level: u8,
+    te: u64,
+    ae: u64,
+    words: &[u64],
+    values: &[u64],
+    errors: &[u64],
+    file: &mut [u8],
+) -> WriteAnswer
     ensures { λ r. ⌜ WritePromise (planWith level te ae) (now (words .entry)) (now (values .entry)) (now (errors .entry)) (now (file .entry)) r (now (file .exit)) ⌝ }
 {
     if errors.len() != values.len() {
@@ -51,6 +67,10 @@ pub fn write(level: u8, te: u64, ae: u64, words: &[u64], values: &[u64], errors:
     if file.len() < needed {
         return WriteAnswer::Refused(Refusal::RoomTooShort(needed as u64));
     }
-    let plan = Plan { level: level, te: te, ae: ae };
+    let plan = Plan {
+        level: level,
+        te: te,
+        ae: ae,
+    };
     WriteAnswer::Written(put_file(plan, words, values, errors, total, file) as u64)
 }

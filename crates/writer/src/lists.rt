@@ -1,6 +1,6 @@
 // The records of a list, stored one after another, and what a list adds up to.
-use crate::records;
 use crate::Total;
+use crate::records;
 ghost use mathlib.Core.Path.{_≡_};
 ghost use mathlib.Core.List.{[], _∷_};
 ghost use Prim.Native.Nat.{_+_, _*_, _≤_};

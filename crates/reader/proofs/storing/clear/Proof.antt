@@ -36,10 +36,17 @@ loop-again : tie.Need-loop-again Inv-loop μ-loop
 loop-again c =
     let inv = c .before .loop .inv in
     let i = c .before .loop .i in
-    let a = c .before .before .args in
-    (omega arith, (omega arith, (simp length-set (inv .1 .1 .0)
-    , ap (λ (l : List ℕ). set l i 0) (inv .1 .1 .1) ∙ zeroed-more (a .buffer .now) (a .from) i (omega arith) (omega arith)
-      ∙ ap (zeroed (a .buffer .now) (a .from)) (sym (add-one i)))))
+    let a = c .before .before .args in (
+      omega arith,
+      (
+        omega arith,
+        (
+          simp length-set (inv .1 .1 .0),
+          ap (λ (l : List ℕ). set l i 0) (inv .1 .1 .1) ∙ zeroed-more (a .buffer .now) (a .from) i (omega arith) (omega arith)
+              ∙ ap (zeroed (a .buffer .now) (a .from)) (sym (add-one i)),
+        ),
+      ),
+    )
 
 same-length : tie.Need-same-length Inv-loop μ-loop
 same-length c = c .before .loop .inv .1 .1 .0

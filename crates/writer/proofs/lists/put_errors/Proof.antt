@@ -42,9 +42,11 @@ loop-again : tie.Need-loop-again Inv-loop μ-loop
 loop-again c =
     let a = c .before .before .before .before .before .before .before .before .before .args in
     let l = c .before .before .before .before .before .before .loop in
-    let es = a .errors .now in
-    (omega arith, left-on (l .inv .1) (errorBytes (l .line) (getD es (l .line) 0 ∷ [])) (errorBytes (l .line + 1) (drop (l .line + 1) es))
-    (errors-more es (l .line) (omega arith)) (c .before .before .put-error .ensures))
+    let es = a .errors .now in (
+      omega arith,
+      left-on (l .inv .1) (errorBytes (l .line) (getD es (l .line) 0 ∷ [])) (errorBytes (l .line + 1) (drop (l .line + 1) es))
+          (errors-more es (l .line) (omega arith)) (c .before .before .put-error .ensures),
+    )
 
 same-length : tie.Need-same-length Inv-loop μ-loop
 same-length c = c .before .loop .inv .1 .long

@@ -42,9 +42,11 @@ loop-less c = omega arith
 loop-again : tie.Need-loop-again Inv-loop μ-loop
 loop-again c =
     let a = c .before .before .before .before .before .before .before .before .before .args in
-    let l = c .before .before .before .before .before .before .loop in
-    (omega arith, left-on (l .inv .1) (a .kind ∷ bytes 8 (getD (a .list .now) (l .i) 0)) (rows (a .kind) (drop (l .i + 1) (a .list .now)))
-    (rows-more (a .kind) (a .list .now) (l .i) (omega arith)) (c .before .before .put-one .ensures))
+    let l = c .before .before .before .before .before .before .loop in (
+      omega arith,
+      left-on (l .inv .1) (a .kind ∷ bytes 8 (getD (a .list .now) (l .i) 0)) (rows (a .kind) (drop (l .i + 1) (a .list .now)))
+          (rows-more (a .kind) (a .list .now) (l .i) (omega arith)) (c .before .before .put-one .ensures),
+    )
 
 same-length : tie.Need-same-length Inv-loop μ-loop
 same-length c = c .before .loop .inv .1 .long

@@ -2,7 +2,7 @@
 use Prim.Native.Nat.{ℕ, _+_, _-_, _*_, _<_, _≤_}
 use mathlib.Core.Path.{_≡_, refl, ap, ap₂, sym, _∙_}
 use mathlib.Core.Bool.{Bool, true, false}
-use mathlib.Core.List.{List, [], _∷_}
+use mathlib.Core.List.{List}
 use native.Mathlib.Omega.{arith}
 use native.Mathlib.Nat.{add-assoc, add-zero}
 use lib.ListN.{length, getD, drop, length-drop}
@@ -11,7 +11,6 @@ use borrow.Author.Tests.{le-leb, lt-leb, ne-eqb}
 use Rattle.terms.specs.Numbers.{pick}
 use Rattle.workfile.specs.Numbers.{littleEndian}
 use Rattle.workfile.specs.Decode.{recordOf}
-use Rattle.workfile.specs.declared.FileRecord.{FileRecord}
 use Rattle.workfile.specs.declared.FileRecord.the-variants.{Word, Value, ErrorOf, End, Nothing}
 use Rattle.reader.specs.Steps.{recordAt}
 

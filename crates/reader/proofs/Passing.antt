@@ -4,11 +4,11 @@ use mathlib.Core.Path.{_≡_, refl, ap, ap₂, sym, _∙_}
 use mathlib.Core.Bool.{Bool, true, false, _&&_}
 use mathlib.Core.List.{List, [], _∷_, _++_}
 use native.Mathlib.Omega.{arith}
-use lib.Dec.{eqb, leb}
+use lib.Dec.{eqb}
 use lib.ListN.{length, getD, drop, length-drop, length-append}
 use lib.Seq.{drop-drop}
 use borrow.Author.Tests.{le-leb, lt-leb, eq-eqb, ne-eqb}
-use Rattle.terms.specs.Outcome.{Outcome, accepted, refused}
+use Rattle.terms.specs.Outcome.{accepted, refused}
 use Rattle.terms.specs.Numbers.{pick, sum}
 use Rattle.terms.proofs.Tests.{by-test}
 use Rattle.workfile.specs.Content.{Content}
@@ -21,7 +21,6 @@ use Rattle.workfile.proofs.Records.{whole-size}
 use Rattle.workfile.proofs.Rules.{rule, fitted, some-size, is-end}
 use Rattle.workfile.proofs.Lists.{sum-append, length-pad}
 use Rattle.reader.specs.Steps.{recordAt, tallied, judged, checkOf}
-use Rattle.reader.specs.declared.Judged.{Judged}
 use Rattle.reader.specs.declared.Judged.the-variants.{Next, Last, Bad}
 use Rattle.reader.specs.declared.Checked.the-variants.{Legal, Broken}
 

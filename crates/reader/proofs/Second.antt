@@ -1,15 +1,15 @@
 -- The second pass over a legal file: the buffers hold what was read, laid over what they held. Assumes nothing.
-use Prim.Native.Nat.{ℕ, _+_, _-_, _<_, _≤_}
+use Prim.Native.Nat.{ℕ, _+_, _-_, _≤_}
 use mathlib.Core.Path.{_≡_, refl, ap, ap₂, subst, sym, _∙_}
 use mathlib.Core.Bool.{Bool, true, false}
-use mathlib.Core.List.{List, [], _∷_, _++_}
+use mathlib.Core.List.{List}
 use native.Mathlib.Omega.{arith}
 use lib.Dec.{eqb}
 use lib.ListN.{length, getD, set}
-use Rattle.terms.specs.Outcome.{Outcome, accepted, refused, left}
+use Rattle.terms.specs.Outcome.{accepted, refused, left}
 use Rattle.terms.specs.Numbers.{pick}
 use Rattle.terms.proofs.Outcomes.{never}
-use Rattle.workfile.specs.Content.{Content, mostFileLines}
+use Rattle.workfile.specs.Content.{Content}
 use Rattle.workfile.specs.Decode.{tallyOf, grow, padTo, fits, planOf, start, decode}
 use Rattle.workfile.specs.Rules.{Rule}
 use Rattle.workfile.specs.Promises.{over, countsOf, counted, Rooms}
@@ -22,9 +22,9 @@ use Rattle.workfile.proofs.Rules.{rule}
 use Rattle.workfile.proofs.Lists.{length-pad}
 use Rattle.workfile.proofs.Growing.{SoFar, at-first, one-more, plan-grow}
 use Rattle.workfile.proofs.OneFile.{plan-there}
-use Rattle.reader.specs.Steps.{recordAt, judged, zeroed, putWords, putValues, putErrors, Put, contentsWith, IsLegal, Stored}
+use Rattle.reader.specs.Steps.{recordAt, judged, putWords, putValues, putErrors, Put, contentsWith, IsLegal, Stored}
 use Rattle.reader.specs.declared.Judged.the-variants.{Next, Last, Bad}
-use Rattle.reader.proofs.Passing.{At, Stands, at-start, onward-at, Ended, ended, at-end, stopped}
+use Rattle.reader.proofs.Passing.{At, at-start, onward-at, Ended, ended, at-end, stopped}
 use Rattle.reader.proofs.Buffers.{over-set, over-zeroed, length-over}
 
 module _ (c : Content) where

@@ -2,7 +2,7 @@
 use Prim.Native.Nat.{ℕ, _+_}
 use mathlib.Core.Path.{_≡_}
 use mathlib.Core.List.{List, _++_}
-use lib.ListN.{length, drop, take, set}
+use lib.ListN.{drop, take, set}
 use Rattle.terms.specs.Outcome.{Outcome, accepted, refused, left}
 use Rattle.terms.specs.Numbers.{pick}
 use Rattle.workfile.specs.Content.{Content}

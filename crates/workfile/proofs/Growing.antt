@@ -1,13 +1,13 @@
 -- What the rules keep true of the content read so far, and what one record adds to it. Assumes nothing.
-use Prim.Native.Nat.{ℕ, zero, suc, _+_, _-_, _*_, _<_, _≤_}
+use Prim.Native.Nat.{ℕ, _+_, _-_, _*_, _<_, _≤_}
 use mathlib.Core.Path.{_≡_, refl, ap, ap₂, sym, _∙_}
-use mathlib.Core.Bool.{Bool, true, false}
+use mathlib.Core.Bool.{false}
 use mathlib.Core.List.{List, [], _∷_, _++_, map, map-append, append-nil, append-assoc}
 use native.Mathlib.Omega.{arith}
 use lib.ListN.{length, length-append, length-replicate}
 use Rattle.terms.specs.Numbers.{sum}
 use Rattle.workfile.specs.Content.{Content, mostWords, mostFileLines, sumBound, planBytes, bytesOf, bytesOfAll, errorRecords, between, closing, encode}
-use Rattle.workfile.specs.Decode.{size, isEnd, tallyOf, grow, padTo, start}
+use Rattle.workfile.specs.Decode.{size, isEnd, tallyOf, grow, start}
 use Rattle.workfile.specs.Rules.{Rule}
 use Rattle.workfile.specs.declared.Plan.{Plan}
 use Rattle.workfile.specs.declared.FileRecord.{FileRecord}

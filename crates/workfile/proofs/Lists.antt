@@ -8,7 +8,7 @@ use Rattle.terms.specs.Numbers.{sum}
 use Rattle.workfile.specs.Content.{bytesOf, bytesOfAll, errorRecords}
 use Rattle.workfile.specs.Decode.{padTo}
 use Rattle.workfile.specs.declared.FileRecord.{FileRecord}
-use Rattle.workfile.specs.declared.FileRecord.the-variants.{Word, Value, ErrorOf, End, Nothing}
+use Rattle.workfile.specs.declared.FileRecord.the-variants.{Word, Value, ErrorOf}
 
 pub nil-of-length : {A : Type 0} (l : List A) → length l ≡ 0 → l ≡ []
 nil-of-length [] h = refl

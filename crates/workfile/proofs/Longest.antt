@@ -1,17 +1,17 @@
 -- The longest legal file has 45,663 bytes, and the first 45,664 bytes of an input decide it. Assumes nothing.
 use Prim.Native.Nat.{ℕ, zero, suc, _+_, _-_, _<_, _≤_}
-use mathlib.Core.Path.{_≡_, refl, ap, ap₂, subst, sym, _∙_}
+use mathlib.Core.Path.{_≡_, refl, ap, ap₂, sym, _∙_}
 use mathlib.Core.List.{List}
 use mathlib.Core.Bool.{Bool, true, false, _&&_}
 use native.Mathlib.Omega.{arith}
-use lib.Dec.{eqb, leb}
+use lib.Dec.{eqb}
 use borrow.Author.Tests.{le-leb, ne-eqb}
-use lib.ListN.{length, take, drop, getD, length-drop}
+use lib.ListN.{length, take, drop, length-drop}
 use lib.Seq.{getD-take, length-take-le}
 use Rattle.terms.specs.Outcome.{Outcome, accepted, refused}
 use Rattle.terms.specs.Numbers.{pick}
 use Rattle.workfile.specs.Numbers.{Bytes, littleEndian}
-use Rattle.workfile.specs.Content.{Content, longestFile, encode}
+use Rattle.workfile.specs.Content.{Content, longestFile}
 use Rattle.workfile.specs.Decode.{size, isEnd, recordOf, tallyOf, fits, grow, closed, run, hasPlan, planOf, start, decode}
 use Rattle.workfile.specs.declared.Plan.{Plan}
 use Rattle.workfile.proofs.Numbers.{number-of-front}
@@ -19,7 +19,7 @@ use Rattle.workfile.proofs.Records.{whole-size, cut-record, drop-take}
 use Rattle.workfile.proofs.Rules.{rule, some-size}
 use Rattle.workfile.proofs.Lists.{few-errors}
 use Rattle.workfile.proofs.Growing.{SoFar, at-first, one-more, front, front-short, length-front, length-encode}
-use Rattle.workfile.proofs.OneFile.{Counts, one-file, read-counts, refused-so}
+use Rattle.workfile.proofs.OneFile.{one-file, read-counts, refused-so}
 
 -- no legal file is longer
 pub no-longer : (f : List ℕ) (d : Content) → Bytes f → decode f ≡ accepted d → length f ≤ longestFile

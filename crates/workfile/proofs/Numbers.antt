@@ -1,9 +1,9 @@
 -- Writing a number and reading it back, both ways. Assumes nothing.
 use Prim.Native.Nat.{ℕ, zero, suc, _+_, _-_, _*_, _/_, _%_, _^_, _<_, _≤_}
-use mathlib.Core.Path.{_≡_, refl, ap, sym, _∙_}
+use mathlib.Core.Path.{_≡_, refl, ap}
 use mathlib.Core.List.{List, [], _∷_, _++_}
 use native.Mathlib.Omega.{arith}
-use lib.ListN.{length, getD, take, drop}
+use lib.ListN.{length, take}
 use Rattle.workfile.specs.Numbers.{littleEndian, bytes, Bytes}
 
 pub length-bytes : (n x : ℕ) → length (bytes n x) ≡ n

@@ -8,8 +8,8 @@ use native.Mathlib.Omega.{arith}
 use lib.Dec.{T, eqb, leb}
 use lib.Seq.{getD-drop, take-add}
 use borrow.Author.Tests.{eqb-true, leb-true}
-use lib.ListN.{length, take, drop, getD, take-append-drop, length-append, length-drop, drop-of-length-le}
-use Rattle.terms.specs.Outcome.{Outcome, accepted, refused}
+use lib.ListN.{length, take, drop, getD, take-append-drop, length-drop, drop-of-length-le}
+use Rattle.terms.specs.Outcome.{accepted, refused}
 use Rattle.terms.specs.Numbers.{pick, sum}
 use Rattle.terms.proofs.Outcomes.{never, Gives}
 use Rattle.terms.proofs.Tests.{by-test}

@@ -1,15 +1,13 @@
 -- What follows from the promises: they leave no freedom, and the theorems of the file hold of the reader's and the writer's results.
 -- Assumes nothing.
-use Prim.Native.Nat.{ℕ, _+_, _<_, _≤_}
-use mathlib.Core.Path.{_≡_, refl, ap, ap₂, subst, sym, _∙_}
-use mathlib.Core.Bool.{Bool, true, false}
-use mathlib.Core.List.{List, [], _∷_, _++_}
-use native.Mathlib.Omega.{arith}
-use lib.Dec.{eqb, ltb, leb}
-use borrow.Author.Tests.{eqb-true, ltb-true, ltb-false, leb-true, lt-ltb, le-ltb, le-leb, eq-eqb}
+use Prim.Native.Nat.{ℕ, _<_, _≤_}
+use mathlib.Core.Path.{_≡_, ap, sym, _∙_}
+use mathlib.Core.List.{List}
+use lib.Dec.{eqb, ltb}
+use borrow.Author.Tests.{eqb-true, ltb-true, leb-true, lt-ltb, le-ltb, le-leb, eq-eqb}
 use lib.ListN.{length, take, drop}
 use lib.Seq.{take-at}
-use Rattle.terms.specs.Outcome.{Outcome, accepted, refused, refusedBy, after, left}
+use Rattle.terms.specs.Outcome.{Outcome, accepted, refused, after, left}
 use Rattle.terms.specs.Numbers.{sum}
 use Rattle.terms.proofs.Outcomes.{never, after-accepted, refused-once}
 use Rattle.terms.proofs.Tests.{by-test}
@@ -23,7 +21,7 @@ use Rattle.workfile.specs.declared.ReadAnswer.{ReadAnswer}
 use Rattle.workfile.specs.declared.ReadAnswer.the-variants as read
 use Rattle.workfile.specs.declared.WriteAnswer.{WriteAnswer}
 use Rattle.workfile.specs.declared.WriteAnswer.the-variants as write
-use Rattle.workfile.proofs.Rules.{both, and-true}
+use Rattle.workfile.proofs.Rules.{both}
 use Rattle.workfile.proofs.OneFile.{Counts, one-file, no-second-file, read-counts}
 use Rattle.workfile.proofs.RoundTrip.{Fit, round-trip}
 use Rattle.workfile.proofs.Longest.{first-decide}

@@ -1,13 +1,13 @@
 -- A record and its bytes: each is found again from the other, and no byte past a record decides it. Assumes nothing.
 use Prim.Native.Nat.{ℕ, zero, suc, _+_, _-_, _^_, _<_, _≤_}
 use mathlib.Core.Path.{_≡_, refl, ap, ap₂, sym, _∙_}
-use mathlib.Core.Bool.{Bool, true, false}
+use mathlib.Core.Bool.{true}
 use mathlib.Core.List.{List, [], _∷_, _++_}
 use native.Mathlib.Omega.{arith}
 use lib.Dec.{leb, eqb}
 use borrow.Author.Tests.{le-leb, leb-true, eqb-true}
 use lib.ListN.{length, getD, take, drop, length-drop}
-use lib.Seq.{take-add, getD-drop, getD-take, drop-nil, take-nil, length-take-le}
+use lib.Seq.{take-add, getD-drop, getD-take, take-nil, length-take-le}
 use Rattle.terms.proofs.Tests.{by-test}
 use Rattle.workfile.specs.Numbers.{littleEndian, bytes, Bytes}
 use Rattle.workfile.specs.Content.{bytesOf}

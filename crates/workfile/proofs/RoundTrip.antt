@@ -1,24 +1,24 @@
 -- The file of a content reads back to that content. Assumes nothing.
 use Prim.Native.Nat.{ℕ, zero, suc, _+_, _-_, _^_, _<_, _≤_}
-use mathlib.Core.Path.{_≡_, refl, ap, ap₂, sym, _∙_}
+use mathlib.Core.Path.{_≡_, refl, ap, sym, _∙_}
 use mathlib.Core.List.{List, [], _∷_, _++_, map, append-nil, append-assoc}
 use mathlib.Core.Bool.{Bool, true, false}
 use native.Mathlib.Omega.{arith}
 use borrow.Author.Tests.{le-leb}
-use lib.ListN.{length, drop, getD, length-append, length-replicate}
-use Rattle.terms.specs.Outcome.{Outcome, accepted, refused}
+use lib.ListN.{length, getD, length-append, length-replicate}
+use Rattle.terms.specs.Outcome.{accepted, refused}
 use Rattle.terms.specs.Numbers.{pick, sum}
-use Rattle.workfile.specs.Numbers.{littleEndian, bytes}
+use Rattle.workfile.specs.Numbers.{bytes}
 use Rattle.workfile.specs.Content.{Content, mostWords, mostFileLines, sumBound, planBytes, bytesOf, bytesOfAll, errorRecords, between, closing, encode}
-use Rattle.workfile.specs.Decode.{size, isEnd, recordOf, tallyOf, fits, grow, padTo, withErrors, run, hasPlan, planOf, start, decode}
+use Rattle.workfile.specs.Decode.{size, isEnd, tallyOf, grow, padTo, withErrors, run, hasPlan, planOf, start, decode}
 use Rattle.workfile.specs.Rules.{Rule}
 use Rattle.workfile.specs.declared.Plan.{Plan}
 use Rattle.workfile.specs.declared.FileRecord.{FileRecord}
-use Rattle.workfile.specs.declared.FileRecord.the-variants.{Word, Value, ErrorOf, End}
+use Rattle.workfile.specs.declared.FileRecord.the-variants.{Word, Value, ErrorOf}
 use Rattle.workfile.proofs.Numbers.{number-again}
 use Rattle.workfile.proofs.Records.{Good, record-again, skip, length-record}
 use Rattle.workfile.proofs.Rules.{fitted, some-size}
-use Rattle.workfile.proofs.Lists.{sum-append, length-pad, pad-skip, pad-take}
+use Rattle.workfile.proofs.Lists.{sum-append, pad-skip, pad-take}
 use Rattle.workfile.proofs.OneFile.{Counts}
 
 -- the numbers of a content fit their bytes, as those of lent slices do

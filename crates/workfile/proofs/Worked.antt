@@ -4,7 +4,7 @@ use Prim.Native.Nat.{ℕ}
 use mathlib.Core.Path.{_≡_, refl}
 use mathlib.Core.List.{List, [], _∷_, _++_}
 use lib.ListN.{take}
-use Rattle.terms.specs.Outcome.{Outcome, accepted, refused}
+use Rattle.terms.specs.Outcome.{accepted, refused}
 use Rattle.workfile.specs.Numbers.{littleEndian}
 use Rattle.workfile.specs.Content.{Content, encode}
 use Rattle.workfile.specs.Decode.{decode, run, recordOf, fits, grow}

@@ -1,8 +1,8 @@
 -- What the reader and the writer promise: the answer, and every lent buffer afterwards. These are definitions: nothing is assumed.
 use Prim.Native.Nat.{ℕ, _≤_}
 use mathlib.Core.Path.{_≡_}
-use mathlib.Core.Bool.{Bool, true, false, _&&_}
-use mathlib.Core.List.{List, [], _∷_, _++_}
+use mathlib.Core.Bool.{Bool, _&&_}
+use mathlib.Core.List.{List, _++_}
 use lib.Dec.{leb, ltb, eqb}
 use lib.ListN.{length, drop}
 use Rattle.terms.specs.Outcome.{Outcome, accepted, refused, refusedBy, after, left}

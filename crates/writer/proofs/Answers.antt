@@ -1,13 +1,13 @@
 -- The whole file, and the writer's promise case by case. Assumes nothing.
 use Prim.Native.Nat.{ℕ, _+_, _*_, _<_, _≤_}
 use mathlib.Core.Path.{_≡_, refl, ap, ap₂, subst, sym, _∙_}
-use mathlib.Core.List.{List, [], _∷_, _++_, map, append-assoc}
+use mathlib.Core.List.{List, _∷_, _++_, map, append-assoc}
 use mathlib.Core.Bool.{Bool, true, false}
 use native.Mathlib.Omega.{arith}
-use lib.Dec.{ltb, eqb}
-use borrow.Author.Tests.{lt-ltb, le-ltb, le-leb, lt-leb, eq-eqb, ne-eqb, ltb-true}
+use lib.Dec.{ltb}
+use borrow.Author.Tests.{lt-ltb, le-ltb, le-leb, lt-leb, eq-eqb, ne-eqb}
 use lib.ListN.{length}
-use Rattle.terms.specs.Outcome.{Outcome, accepted, refused, refusedBy, after, left}
+use Rattle.terms.specs.Outcome.{accepted, refused, refusedBy, after, left}
 use Rattle.terms.specs.Numbers.{pick, sum}
 use Rattle.terms.specs.declared.Refusal.{Refusal}
 use Rattle.terms.specs.declared.Refusal.the-variants.{LengthsDiffer, NoLegalFile, RoomTooShort}
@@ -20,7 +20,6 @@ use Rattle.workfile.specs.declared.WriteAnswer.the-variants.{Written, Refused}
 use Rattle.workfile.proofs.Lists.{bytes-append}
 use Rattle.workfile.proofs.Growing.{length-encode}
 use Rattle.writer.specs.Parts.{lay, Wrote, rows, errorBytes, totalOf}
-use Rattle.writer.specs.declared.Total.{Total}
 use Rattle.writer.specs.declared.Total.the-variants.{Sum, Past}
 use Rattle.writer.proofs.Laying.{lay-over, wrote-on}
 use Rattle.writer.proofs.Rows.{rows-words, rows-values, length-rows, length-errorBytes}

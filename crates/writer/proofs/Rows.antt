@@ -7,10 +7,10 @@ use native.Mathlib.Numerals.{add-one}
 use borrow.Author.Tests.{lt-ltb, le-ltb}
 use lib.ListN.{length, getD, drop, drop-of-length-le}
 use lib.Seq.{drop-cons}
-use Rattle.terms.specs.Numbers.{pick, sum}
+use Rattle.terms.specs.Numbers.{sum}
 use Rattle.workfile.specs.Numbers.{bytes}
 use Rattle.workfile.specs.Content.{bytesOf, bytesOfAll, errorRecords, sumBound}
-use Rattle.workfile.specs.declared.FileRecord.the-variants.{Word, Value, ErrorOf}
+use Rattle.workfile.specs.declared.FileRecord.the-variants.{Word, Value}
 use Rattle.workfile.proofs.Lists.{bytes-append, errors-append, length-errors}
 use Rattle.writer.specs.Parts.{Wrote, rows, errorBytes, totalOf}
 use Rattle.writer.specs.declared.Total.the-variants.{Sum, Past}

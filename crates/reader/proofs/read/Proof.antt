@@ -1,7 +1,7 @@
 -- `reader::read` meets its promise: each `return` is a case of it. Assumes nothing.
 use borrow.Author.Needs.{needs}
 use native.Mathlib.Omega.{arith}
-use mathlib.Core.Path.{_≡_, sym, _∙_}
+use mathlib.Core.Path.{sym, _∙_}
 use Rattle.workfile.specs.Promises.{Rooms}
 use Rattle.reader.proofs.Answers.{few-words, few-values, few-errors, broken-file, read-file, is-legal}
 use Rattle.reader.proofs.read.Statement.{statement}

@@ -1,7 +1,7 @@
 -- `writer::write` meets its promise: each `return` is a case of it. Assumes nothing.
 use borrow.Author.Needs.{needs}
 use native.Mathlib.Omega.{arith}
-use mathlib.Core.Path.{_≡_, sym, _∙_}
+use mathlib.Core.Path.{sym, _∙_}
 use Rattle.workfile.specs.Promises.{planWith, contentWith}
 use Rattle.workfile.proofs.Growing.{length-encode}
 use Rattle.writer.proofs.Answers.{differ, many-words, many-lines, past, no-room, written, sum-known}

@@ -1,7 +1,7 @@
 -- `writer::lists::add_up` meets its contract. The invariant: the total and the sum of what is left are the sum. Assumes nothing.
 use native.Mathlib.Omega.{arith}
-use Prim.Native.Nat.{ℕ, _+_, _-_, _≤_, _<_}
-use mathlib.Core.Path.{_≡_, refl, sym, ap, _∙_}
+use Prim.Native.Nat.{_+_, _-_, _≤_, _<_}
+use mathlib.Core.Path.{_≡_}
 use lib.ListN.{length, drop}
 use Rattle.terms.specs.Numbers.{sum}
 use Rattle.workfile.specs.Content.{sumBound}

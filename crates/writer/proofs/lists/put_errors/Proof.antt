@@ -1,7 +1,6 @@
 -- `writer::lists::put_errors` meets its contract. The invariant: the records from `line` on are left to lay. Assumes nothing.
 use native.Mathlib.Omega.{arith}
-use Prim.Native.Nat.{ℕ, _+_, _-_, _≤_}
-use mathlib.Core.Path.{_≡_, _∙_}
+use Prim.Native.Nat.{_+_, _-_, _≤_}
 use mathlib.Core.List.{[], _∷_}
 use lib.ListN.{length, drop, getD}
 use Rattle.writer.specs.Parts.{errorBytes}

@@ -1,8 +1,7 @@
 -- `writer::lists::put_list` meets its contract. The invariant: the rows from `i` on are left to lay. Assumes nothing.
 use native.Mathlib.Omega.{arith}
-use Prim.Native.Nat.{ℕ, _+_, _-_, _≤_}
-use mathlib.Core.Path.{_≡_, _∙_}
-use mathlib.Core.List.{[], _∷_}
+use Prim.Native.Nat.{_+_, _-_, _≤_}
+use mathlib.Core.List.{_∷_}
 use lib.ListN.{length, drop, getD}
 use Rattle.workfile.specs.Numbers.{bytes}
 use Rattle.writer.specs.Parts.{rows}

@@ -1,7 +1,7 @@
 -- `writer::records::put_number` meets its contract. The invariant: the bytes of `rest` are left to lay. The measure is their number. Assumes nothing.
 use native.Mathlib.Omega.{arith}
-use Prim.Native.Nat.{ℕ, _+_, _-_, _≤_, _<_}
-use mathlib.Core.Path.{_≡_, refl, sym, ap, _∙_}
+use Prim.Native.Nat.{_+_, _-_}
+use mathlib.Core.Path.{_≡_, refl}
 use Prim.Native.Nat.{_%_, _/_}
 use mathlib.Core.List.{[], _∷_}
 use Rattle.workfile.specs.Numbers.{bytes}

@@ -166,11 +166,14 @@ unfolding run
 stop-end zero c at bs n s l e f = absurd (omega arith)
 stop-end (suc k) c at bs n s l e f = rw (e, f)
 
-pub stopped : (f : List ℕ) (at : ℕ) (t : Tally) → Stands f at t → judged t (recordAt f at) ≡ Bad → decode f ≡ refused 17 at
+pub stopped-at : (f : List ℕ) (at : ℕ) (t : Tally) → Stands f at t → fits t (recordAt f at) ≡ false → decode f ≡ refused 17 at
 unfolding recordAt
-stopped f at t s e =
-    let g : fits (tallyOf (s .read)) (recordAt f at) ≡ false = rw (← (s .tally)) at (barred t (recordAt f at) e) in
+stopped-at f at t s e =
+    let g : fits (tallyOf (s .read)) (recordAt f at) ≡ false = rw (← (s .tally)) at e in
     s .place .same ∙ stop-bad (s .place .fuel) (s .read) at (drop at f) g
+
+pub stopped : (f : List ℕ) (at : ℕ) (t : Tally) → Stands f at t → judged t (recordAt f at) ≡ Bad → decode f ≡ refused 17 at
+stopped f at t s e = stopped-at f at t s (barred t (recordAt f at) e)
 
 -- what Z decides
 pub at-end : (f : List ℕ) (at : ℕ) (t : Tally) (s : Stands f at t) → Ended t (recordAt f at)

@@ -22,9 +22,10 @@ use Rattle.workfile.proofs.Rules.{rule}
 use Rattle.workfile.proofs.Lists.{length-pad}
 use Rattle.workfile.proofs.Growing.{SoFar, at-first, one-more, plan-grow}
 use Rattle.workfile.proofs.OneFile.{plan-there}
-use Rattle.reader.specs.Steps.{recordAt, judged, putWords, putValues, putErrors, Put, contentsWith, IsLegal, Stored}
+use Rattle.reader.specs.Steps.{recordAt, judged, putWords, putValues, putErrors, Ready, Put, Stepped, contentsWith, IsLegal, Stored}
+use Rattle.reader.specs.declared.Judged.{Judged}
 use Rattle.reader.specs.declared.Judged.the-variants.{Next, Last, Bad}
-use Rattle.reader.proofs.Passing.{At, at-start, onward-at, Ended, ended, at-end, stopped}
+use Rattle.reader.proofs.Passing.{At, Stands, at-start, onward-at, longer, Ended, ended, at-end, stopped-at, stopped}
 use Rattle.reader.proofs.Buffers.{over-set, over-zeroed, length-over}
 
 module _ (c : Content) where
@@ -117,49 +118,66 @@ counted-end : (c : Content) (n s : ℕ) → counted (grow c (End n s)) ≡ conte
 unfolding grow
 counted-end c n s = refl
 
-module _ {f ws vs es : List ℕ} {p : Plan} {at : ℕ} {t : Tally} {w v e : List ℕ} (s : Storing f ws vs es p at t w v e) (m : Rooms ws vs es) (r : FileRecord) (er : r ≡ recordAt f at) where
-  -- what `put` asks
-  pub ready : fits t r ≡ true → Rooms w v e × (Rule t r × ((t .«next_line» ≤ t .lines) × (t .lines ≤ 2048)))
-  ready h =
+module _ {f ws vs es : List ℕ} {p : Plan} {at : ℕ} {t : Tally} {w v e : List ℕ} (s : Storing f ws vs es p at t w v e) (m : Rooms ws vs es) (a : IsLegal f) where
+  abbrev stands : Stands f at t
+  stands = record { read = s .read; tally = s .tally; place = s .place }
+
+  -- what a step asks: the rules allow the next record, since the file is legal
+  allowed : fits t (recordAt f at) ≡ true
+  allowed = go (fits t (recordAt f at)) refl
+    where
+      go : (b : Bool) → fits t (recordAt f at) ≡ b → b ≡ true
+      go true e = refl
+      go false e = never (sym (stopped-at f at t stands e) ∙ a .1)
+
+  pub ready : (at ≤ length f) × Ready t (recordAt f at) w v e
+  ready =
       let l = lengths m (s .kept) in
-      let k = s .kept .so-far in (
-        record { words = omega (arith, l .words, m .words); values = omega (arith, l .values, m .values); errors = omega (arith, l .errors, m .errors) },
-        (rule t r h, subst (λ (u : Tally). (u .«next_line» ≤ u .lines) × (u .lines ≤ 2048)) (s .tally) (k .sound, k .few-lines)),
-      )
+      let k = s .kept .so-far in
+      let n = subst (λ (u : Tally). (u .«next_line» ≤ u .lines) × (u .lines ≤ 2048)) (s .tally) (k .sound, k .few-lines) in
+      (s .place .within
+      , record { rooms = record { words = omega (arith, l .words, m .words); values = omega (arith, l .values, m .values); errors = omega (arith, l .errors, m .errors) }
+               ; rule = rule t (recordAt f at) allowed; sound = n .0; few-lines = n .1 })
 
-  pub goes-on : (u : Tally) (n : ℕ) (w′ v′ e′ : List ℕ) → judged t r ≡ Next u n → Put t r w v e w′ v′ e′ → Storing f ws vs es p (at + n) u w′ v′ e′
-  goes-on u n w′ v′ e′ j q =
-      let c = s .read in
-      let o = onward-at f at t u n c (s .tally) (s .place) (rw er at j) in
-      let q′ : Put (tallyOf c) (recordAt f at) w v e w′ v′ e′ = rw (er, ← (s .tally)) at q in
-      record {
-        read = grow c (recordAt f at);
-        tally = o .0;
-        place = o .1 .0;
-        kept = holds-grow c (recordAt f at) p ws vs es w v e w′ v′ e′ (o .1 .1) m (s .kept) q′;
-      }
+  module _ {j : Judged} {w′ v′ e′ : List ℕ} (q : Stepped f at t j w v e w′ v′ e′) where
+    held : (h : Rule (tallyOf (s .read)) (recordAt f at)) → Holds (grow (s .read) (recordAt f at)) p ws vs es w′ v′ e′
+    held h =
+        let put : Put (tallyOf (s .read)) (recordAt f at) w v e w′ v′ e′ = rw (← (s .tally)) at (q .stored) in
+        holds-grow (s .read) (recordAt f at) p ws vs es w v e w′ v′ e′ h m (s .kept) put
 
-  pub arrives : (k : Contents) (w′ v′ e′ : List ℕ) → IsLegal f → judged t r ≡ Last → Put t r w v e w′ v′ e′ → k ≡ contentsWith p t → Stored f ws vs es k w′ v′ e′
-  arrives k w′ v′ e′ a j q known =
-      let c = s .read in
-      let x : Ended t (recordAt f at) = ended t (recordAt f at) (rw er at j) in
-      let g : fits (tallyOf c) (recordAt f at) ≡ true = ap (λ (y : Tally). fits y (recordAt f at)) (s .tally) ∙ x .fit in
-      let q′ : Put (tallyOf c) (recordAt f at) w v e w′ v′ e′ = rw (er, ← (s .tally)) at q in
-      let y = at-end f at t (record { read = c; tally = s .tally; place = s .place }) x in
-      let d = grow c (End (y .0) (y .1)) in
-      let h : Holds d p ws vs es w′ v′ e′ =
-      subst (λ (z : FileRecord). Holds (grow c z) p ws vs es w′ v′ e′) (y .2)
-      (holds-grow c (recordAt f at) p ws vs es w v e w′ v′ e′ (rule (tallyOf c) (recordAt f at) g) m (s .kept) q′) in
-      let o : decode f ≡ accepted d = a .1 ∙ sym (closed-so (eqb (length f - at) 13) d (at + 13) (a .0) (sym (y .3) ∙ a .1)) in
-      let n : k ≡ counted d = known ∙ ap₂ contentsWith (sym (s .kept .plan)) (sym (s .tally)) ∙ sym (counted-end c (y .0) (y .1)) in
-      record {
-        answer = ap accepted n ∙ sym (ap countsOf o);
-        words = h .words ∙ sym (ap (left (λ c. over (c .words) ws) ws) o);
-        values = h .values ∙ sym (ap (left (λ c. over (c .values) vs) vs) o);
-        errors = h .errors ∙ sym (ap (left (λ c. over (c .errors) es) es) o);
-      }
+    pub same-lengths : Lengths ws vs es w′ v′ e′
+    same-lengths = lengths m (held (subst (λ (u : Tally). Rule u (recordAt f at)) (sym (s .tally)) (rule t (recordAt f at) allowed)))
 
-  pub never-bad : {A : Type 0} → IsLegal f → judged t r ≡ Bad → A
-  never-bad a j =
-      let b = stopped f at t (record { read = s .read; tally = s .tally; place = s .place }) (rw er at j) in
-      never (sym b ∙ a .1)
+    pub goes-on : (u : Tally) (n : ℕ) → j ≡ Next u n → Storing f ws vs es p (at + n) u w′ v′ e′
+    goes-on u n is =
+        let o = onward-at f at t u n (s .read) (s .tally) (s .place) (sym (q .judgement) ∙ is) in
+        record { read = grow (s .read) (recordAt f at); tally = o .0; place = o .1 .0; kept = held (o .1 .1) }
+
+    pub some-bytes : (u : Tally) (n : ℕ) → j ≡ Next u n → 9 ≤ n
+    some-bytes u n is = longer f at t u n (sym (q .judgement) ∙ is)
+
+    pub arrives : (k : Contents) → j ≡ Last → k ≡ contentsWith p t → Stored f ws vs es k w′ v′ e′
+    arrives k is known =
+        let c = s .read in
+        let x : Ended t (recordAt f at) = ended t (recordAt f at) (sym (q .judgement) ∙ is) in
+        let g : fits (tallyOf c) (recordAt f at) ≡ true = ap (λ (y : Tally). fits y (recordAt f at)) (s .tally) ∙ x .fit in
+        let y = at-end f at t stands x in
+        let d = grow c (End (y .0) (y .1)) in
+        let h : Holds d p ws vs es w′ v′ e′ =
+            subst (λ (z : FileRecord). Holds (grow c z) p ws vs es w′ v′ e′) (y .2) (held (rule (tallyOf c) (recordAt f at) g)) in
+        let o : decode f ≡ accepted d = a .1 ∙ sym (closed-so (eqb (length f - at) 13) d (at + 13) (a .0) (sym (y .3) ∙ a .1)) in
+        let n : k ≡ counted d = known ∙ ap₂ contentsWith (sym (s .kept .plan)) (sym (s .tally)) ∙ sym (counted-end c (y .0) (y .1)) in
+        record { answer = ap accepted n ∙ sym (ap countsOf o); words = h .words ∙ sym (ap (left (λ c. over (c .words) ws) ws) o)
+               ; values = h .values ∙ sym (ap (left (λ c. over (c .values) vs) vs) o); errors = h .errors ∙ sym (ap (left (λ c. over (c .errors) es) es) o) }
+
+    pub never-bad : {A : Type 0} → j ≡ Bad → A
+    never-bad is = never (sym (stopped f at t stands (sym (q .judgement) ∙ is)) ∙ a .1)
+
+-- one step, from its parts
+pub stepped : {f : List ℕ} {at : ℕ} {t : Tally} {r : FileRecord} {j : Judged} {w v e w′ v′ e′ : List ℕ}
+    → r ≡ recordAt f at → j ≡ judged t r → Put t r w v e w′ v′ e′ → Stepped f at t j w v e w′ v′ e′
+stepped {f} {at} {t} {r} {j} {w} {v} {e} {w′} {v′} {e′} is judgement put =
+    record { judgement = judgement ∙ ap (judged t) is; stored = subst (λ (x : FileRecord). Put t x w v e w′ v′ e′) is put }
+
+pub ready-at : (f : List ℕ) (at : ℕ) {t : Tally} {r : FileRecord} {w v e : List ℕ} → r ≡ recordAt f at → Ready t (recordAt f at) w v e → Ready t r w v e
+ready-at f at {t} {r} {w} {v} {e} is q = subst (λ (x : FileRecord). Ready t x w v e) (sym is) q

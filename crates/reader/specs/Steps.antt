@@ -1,13 +1,14 @@
 -- The parts of the reader: a record at a place, a record judged from counts, and a record stored. These are definitions: nothing is assumed.
-use Prim.Native.Nat.{ℕ, _+_}
+use Prim.Native.Nat.{ℕ, _+_, _≤_}
 use mathlib.Core.Path.{_≡_}
 use mathlib.Core.List.{List, _++_}
 use lib.ListN.{drop, take, set}
 use Rattle.terms.specs.Outcome.{Outcome, accepted, refused, left}
 use Rattle.terms.specs.Numbers.{pick}
-use Rattle.workfile.specs.Content.{Content}
+use Rattle.workfile.specs.Content.{Content, mostFileLines}
 use Rattle.workfile.specs.Decode.{recordOf, size, isEnd, fits, padTo, decode}
-use Rattle.workfile.specs.Promises.{over, countsOf}
+use Rattle.workfile.specs.Rules.{Rule}
+use Rattle.workfile.specs.Promises.{over, countsOf, Rooms}
 use Rattle.workfile.specs.declared.Plan.{Plan}
 use Rattle.workfile.specs.declared.Tally.{Tally}
 use Rattle.workfile.specs.declared.Contents.{Contents}
@@ -68,6 +69,18 @@ pub record Put (t : Tally) (r : FileRecord) (w v e w′ v′ e′ : List ℕ) : 
   pub words : w′ ≡ putWords t r w
   pub values : v′ ≡ putValues t r v
   pub errors : e′ ≡ putErrors t r e
+
+-- a record that the rules allow has its place
+pub record Ready (t : Tally) (r : FileRecord) (w v e : List ℕ) : Type 0 where
+  pub rooms : Rooms w v e
+  pub rule : Rule t r
+  pub sound : t .«next_line» ≤ t .lines
+  pub few-lines : t .lines ≤ mostFileLines
+
+-- the record at a place of a file, judged and stored
+pub record Stepped (f : List ℕ) (at : ℕ) (t : Tally) (j : Judged) (w v e w′ v′ e′ : List ℕ) : Type 0 where
+  pub judgement : j ≡ judged t (recordAt f at)
+  pub stored : Put t (recordAt f at) w v e w′ v′ e′
 
 abbrev pub contentsWith : Plan → Tally → Contents
 contentsWith p t = record { level = p .level; te = p .te; ae = p .ae; words = t .words; lines = t .lines }

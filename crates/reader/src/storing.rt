@@ -9,9 +9,8 @@ use workfile::Tally;
 ghost use mathlib.Core.Path.{_≡_};
 ghost use Prim.Native.Nat.{_≤_};
 ghost use lib.ListN.{length};
-ghost use Rattle.workfile.specs.Rules.{Rule};
 ghost use Rattle.workfile.specs.Promises.{Rooms};
-ghost use Rattle.reader.specs.Steps.{contentsWith, zeroed, Put, IsLegal, Stored};
+ghost use Rattle.reader.specs.Steps.{recordAt, contentsWith, zeroed, Ready, Put, Stepped, IsLegal, Stored};
 
 // Zeros from `from` up to `to`.
 fn clear(buffer: &mut [u64], from: usize, to: usize)
@@ -27,7 +26,7 @@ fn clear(buffer: &mut [u64], from: usize, to: usize)
 
 // A record that the rules allow goes to its place; lines that E passes over, and those after the last E, get error 0.
 fn put(tally: Tally, found: FileRecord, words: &mut [u64], values: &mut [u64], errors: &mut [u64])
-    requires { ⌜ Rooms (now words) (now values) (now errors) × (Rule tally found × ((tally .«next_line» ≤ tally .lines) × (tally .lines ≤ 2048))) ⌝ }
+    requires { ⌜ Ready tally found (now words) (now values) (now errors) ⌝ }
     ensures { λ x. ⌜ Put tally found (now (words .entry)) (now (values .entry)) (now (errors .entry)) (now (words .exit)) (now (values .exit)) (now (errors .exit)) ⌝ }
 {
     match found {
@@ -50,6 +49,23 @@ fn put(tally: Tally, found: FileRecord, words: &mut [u64], values: &mut [u64], e
         }
         FileRecord::Nothing => {}
     }
+}
+
+// The record at a place of a legal file goes to the buffers; answers its judgement.
+fn step(
+    file: &[u8],
+    at: usize,
+    tally: Tally,
+    words: &mut [u64],
+    values: &mut [u64],
+    errors: &mut [u64],
+) -> Judged
+    requires { ⌜ (at ≤ length (now file)) × Ready tally (recordAt (now file) at) (now words) (now values) (now errors) ⌝ }
+    ensures { λ r. ⌜ Stepped (now (file .entry)) at tally r (now (words .entry)) (now (values .entry)) (now (errors .entry)) (now (words .exit)) (now (values .exit)) (now (errors .exit)) ⌝ }
+{
+    let found = records::record_at(file, at);
+    put(tally, found, words, values, errors);
+    rules::judge(tally, found)
 }
 
 // The reader's answer: the plan, and the counts of words and lines.
@@ -82,16 +98,13 @@ pub fn store(file: &[u8], words: &mut [u64], values: &mut [u64], errors: &mut [u
         next_line: 0,
     };
     loop {
-        let found = records::record_at(file, at);
-        let judged = rules::judge(tally, found);
+        let judged = step(file, at, tally, words, values, errors);
         match judged {
             Judged::Next(next, size) => {
-                put(tally, found, words, values, errors);
                 tally = next;
                 at = at + size;
             }
             Judged::Last => {
-                put(tally, found, words, values, errors);
                 return contents(plan, tally);
             }
             Judged::Bad => {

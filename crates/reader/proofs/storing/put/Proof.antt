@@ -9,10 +9,10 @@ enum-known-found : tie.Need-enum-known-found
 enum-known-found c = search needs
 
 mul-words : tie.Need-mul-words
-mul-words c = omega (arith, rw (c .before .found .given .1) at (c .before .before .before .before .before .before .pre .1 .0))
+mul-words c = omega (arith, rw (c .before .found .given .1) at (c .before .before .before .before .before .before .pre .rule))
 
 slice-write-words : tie.Need-slice-write-words
-slice-write-words c = omega (arith, rw (c .before .found .given .1) at (c .before .before .before .before .before .before .pre .1 .0))
+slice-write-words c = omega (arith, rw (c .before .found .given .1) at (c .before .before .before .before .before .before .pre .rule))
 
 enum-known-found-2 : tie.Need-enum-known-found-2
 enum-known-found-2 c = search needs
@@ -21,25 +21,25 @@ mul-values : tie.Need-mul-values
 mul-values c = search needs
 
 slice-write-values : tie.Need-slice-write-values
-slice-write-values c = omega (arith, rw (c .before .found2 .given .1) at (c .before .before .before .before .before .before .pre .1 .0))
+slice-write-values c = omega (arith, rw (c .before .found2 .given .1) at (c .before .before .before .before .before .before .pre .rule))
 
 enum-known-found-3 : tie.Need-enum-known-found-3
 enum-known-found-3 c = search needs
 
 clear-requires : tie.Need-clear-requires
-clear-requires c κs = omega (arith, rw (c .before .before .found3 .given .1) at (c .before .before .before .before .before .before .before .pre .1 .0))
+clear-requires c κs = omega (arith, rw (c .before .before .found3 .given .1) at (c .before .before .before .before .before .before .before .pre .rule))
 
 mul-errors : tie.Need-mul-errors
-mul-errors c = omega (arith, rw (c .before .before .before .before .before .found3 .given .1) at (c .before .before .before .before .before .before .before .before .before .before .pre .1 .0))
+mul-errors c = omega (arith, rw (c .before .before .before .before .before .found3 .given .1) at (c .before .before .before .before .before .before .before .before .before .before .pre .rule))
 
 slice-write-errors : tie.Need-slice-write-errors
-slice-write-errors c = omega (arith, rw (c .before .before .before .before .before .found3 .given .1) at (c .before .before .before .before .before .before .before .before .before .before .pre .1 .0))
+slice-write-errors c = omega (arith, rw (c .before .before .before .before .before .found3 .given .1) at (c .before .before .before .before .before .before .before .before .before .before .pre .rule))
 
 enum-known-found-4 : tie.Need-enum-known-found-4
 enum-known-found-4 c = search needs
 
 clear-requires-2 : tie.Need-clear-requires-2
-clear-requires-2 c κs = omega (arith, rw (c .before .before .found4 .given .1) at (c .before .before .before .before .before .before .before .pre .1 .0))
+clear-requires-2 c κs = omega (arith, rw (c .before .before .found4 .given .1) at (c .before .before .before .before .before .before .before .pre .rule))
 
 enum-told : tie.Need-enum-told
 enum-told c = search needs

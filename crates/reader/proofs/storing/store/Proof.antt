@@ -3,11 +3,10 @@
 use borrow.Author.Needs.{needs}
 use native.Mathlib.Omega.{arith}
 use Prim.Native.Nat.{_-_}
-use mathlib.Core.Path.{_≡_, sym, _∙_}
+use mathlib.Core.Path.{_≡_, sym}
 use lib.ListN.{length, getD, drop}
 use Rattle.workfile.specs.Numbers.{littleEndian}
-use Rattle.reader.proofs.Passing.{went, longer, ended}
-use Rattle.reader.proofs.Second.{Storing, legal-plan, sets-out, ready, goes-on, arrives, never-bad, lengths}
+use Rattle.reader.proofs.Second.{Storing, legal-plan, sets-out, ready, goes-on, some-bytes, same-lengths, arrives, never-bad}
 use Rattle.reader.proofs.storing.store.Statement.{statement}
 use Rattle.reader.proofs.storing.store.Tie as tie
 
@@ -17,8 +16,8 @@ Inv-loop file words₀ values₀ errors₀ plan at₀ tally₀ words values erro
 abbrev μ-loop : tie.MeasureT-loop
 μ-loop file words₀ values₀ errors₀ plan at₀ tally₀ words values errors at tally = length file - at
 
-shared-slice-read-t13 : tie.Need-shared-slice-read-t13 Inv-loop μ-loop
-shared-slice-read-t13 c = omega (arith, legal-plan _ (c .before .before .before .before .before .pre .0))
+shared-slice-read-t12 : tie.Need-shared-slice-read-t12 Inv-loop μ-loop
+shared-slice-read-t12 c = omega (arith, legal-plan _ (c .before .before .before .before .before .pre .0))
 
 eight-bytes-requires : tie.Need-eight-bytes-requires Inv-loop μ-loop
 eight-bytes-requires c κs = omega (arith, legal-plan _ (c .before .before .before .before .before .pre .0))
@@ -33,67 +32,59 @@ loop-holds c =
     let ae : littleEndian 8 (drop 10 f) ≡ c .eight-bytes2 .result = sym (c .eight-bytes2 .ensures) in
     sets-out _ _ _ _ _ (c .before .before .before .before .before .before .before .pre .0) (λ i. record { level = getD f 1 0; te = te i; ae = ae i })
 
-record-at-requires : tie.Need-record-at-requires Inv-loop μ-loop
-record-at-requires c κs = c .loop .inv .place .within
-
-judge-requires : tie.Need-judge-requires Inv-loop μ-loop
-judge-requires c κs = search needs
+step-requires : tie.Need-step-requires Inv-loop μ-loop
+step-requires c κs =
+    let at-loop = c .before .before .before in
+    let pre = at-loop .before .before .before .before .before .before .before .before .pre in
+    ready (at-loop .loop .inv) (pre .1) (pre .0)
 
 enum-known-judged : tie.Need-enum-known-judged Inv-loop μ-loop
 enum-known-judged c = search needs
 
-put-requires : tie.Need-put-requires Inv-loop μ-loop
-put-requires c κs =
-    let at-loop = c .before .before .before .before .before .before .before .before in
-    let found = c .before .before .before .before .before .before .before .record-at in
-    let pre = at-loop .before .before .before .before .before .before .before .before .pre in
-    let next = c .before .before .before .before .judged .given .0 in
-    ready (at-loop .loop .inv) (pre .1) (found .result) (found .ensures) (went (at-loop .loop .tally) (found .result) (next .0) (next .1 .0) (cc) .fit)
-
 loop-again : tie.Need-loop-again Inv-loop μ-loop
 loop-again c =
-    let at-loop = c .before .before .before .before .before .before .before .before .before .before .before .before .before .before .before in
-    let found = c .before .before .before .before .before .before .before .before .before .before .before .before .before .before .record-at in
+    let at-loop = c .before .before .before .before .before .before .before .before .before .before .before .before .before in
     let pre = at-loop .before .before .before .before .before .before .before .before .pre in
-    goes-on (at-loop .loop .inv) (pre .1) (found .result) (found .ensures) _ _ _ _ _ (cc) (c .before .before .before .before .before .before .put .ensures)
+    goes-on (at-loop .loop .inv) (pre .1) (pre .0) (c .before .before .before .before .before .before .before .before .before .step .ensures) _ _ (c .before .judged .given .1)
 
 add-at : tie.Need-add-at Inv-loop μ-loop
 add-at c = omega (arith, loop-again c .place .within)
 
 loop-less : tie.Need-loop-less Inv-loop μ-loop
 loop-less c =
-    let at-loop = c .before .before .before .before .before .before .before .before .before .before .before .before .before .before .before in
-    let next = c .before .before .before .before .before .before .before .before .before .before .before .judged .given .0 in
-    omega (arith, loop-again c .place .within, longer (at-loop .before .before .before .before .before .before .before .before .args .file .now) (at-loop .loop .at) (at-loop .loop .tally) (next .0) (next .1 .0) (cc))
+    let at-loop = c .before .before .before .before .before .before .before .before .before .before .before .before .before in
+    let pre = at-loop .before .before .before .before .before .before .before .before .pre in
+    omega (arith, loop-again c .place .within, some-bytes (at-loop .loop .inv) (pre .1) (pre .0) (c .before .before .before .before .before .before .before .before .before .step .ensures) _ _ (c .before .judged .given .1))
 
 enum-told : tie.Need-enum-told Inv-loop μ-loop
 enum-told c = search needs
-
-put-requires-2 : tie.Need-put-requires-2 Inv-loop μ-loop
-put-requires-2 c κs =
-    let at-loop = c .before .before .before .before .before .before .before in
-    let found = c .before .before .before .before .before .before .record-at in
-    let pre = at-loop .before .before .before .before .before .before .before .before .pre in
-    ready (at-loop .loop .inv) (pre .1) (found .result) (found .ensures) (ended (at-loop .loop .tally) (found .result) (cc) .fit)
 
 contents-requires : tie.Need-contents-requires Inv-loop μ-loop
 contents-requires c κs = search needs
 
 same-length : tie.Need-same-length Inv-loop μ-loop
-same-length c = c .before .before .before .before .before .before .before .put2 .kept .1 .1 .0 ∙ lengths (c .before .before .before .before .before .before .before .before .before .before .before .before .before .before .before .before .before .before .before .before .before .before .before .pre .1) (c .before .before .before .before .before .before .before .before .before .before .before .before .before .before .before .loop .inv .kept) .words
+same-length c =
+    let at-loop = c .before .before .before .before .before .before .before .before .before .before .before .before .before in
+    let pre = at-loop .before .before .before .before .before .before .before .before .pre in
+    same-lengths (at-loop .loop .inv) (pre .1) (pre .0) (c .before .before .before .before .before .before .before .before .before .step .ensures) .words
 
 same-length-2 : tie.Need-same-length-2 Inv-loop μ-loop
-same-length-2 c = c .before .before .before .before .before .before .before .put2 .kept .1 .1 .1 .0 ∙ lengths (c .before .before .before .before .before .before .before .before .before .before .before .before .before .before .before .before .before .before .before .before .before .before .before .pre .1) (c .before .before .before .before .before .before .before .before .before .before .before .before .before .before .before .loop .inv .kept) .values
+same-length-2 c =
+    let at-loop = c .before .before .before .before .before .before .before .before .before .before .before .before .before in
+    let pre = at-loop .before .before .before .before .before .before .before .before .pre in
+    same-lengths (at-loop .loop .inv) (pre .1) (pre .0) (c .before .before .before .before .before .before .before .before .before .step .ensures) .values
 
 same-length-3 : tie.Need-same-length-3 Inv-loop μ-loop
-same-length-3 c = c .before .before .before .before .before .before .before .put2 .kept .1 .1 .1 .1 .0 ∙ lengths (c .before .before .before .before .before .before .before .before .before .before .before .before .before .before .before .before .before .before .before .before .before .before .before .pre .1) (c .before .before .before .before .before .before .before .before .before .before .before .before .before .before .before .loop .inv .kept) .errors
+same-length-3 c =
+    let at-loop = c .before .before .before .before .before .before .before .before .before .before .before .before .before in
+    let pre = at-loop .before .before .before .before .before .before .before .before .pre in
+    same-lengths (at-loop .loop .inv) (pre .1) (pre .0) (c .before .before .before .before .before .before .before .before .before .step .ensures) .errors
 
 returns : tie.Need-returns Inv-loop μ-loop
 returns c =
-    let at-loop = c .before .before .before .before .before .before .before .before .before .before .before .before .before .before .before in
-    let found = c .before .before .before .before .before .before .before .before .before .before .before .before .before .before .record-at in
+    let at-loop = c .before .before .before .before .before .before .before .before .before .before .before .before .before in
     let pre = at-loop .before .before .before .before .before .before .before .before .pre in
-    arrives (at-loop .loop .inv) (pre .1) (found .result) (found .ensures) _ _ _ _ (pre .0) (sym (c .before .before .before .before .before .before .before .before .before .before .before .before .before .judge .ensures) ∙ c .before .before .before .before .before .before .before .before .before .before .before .enum-told .given .1) (c .before .before .before .before .before .before .before .put2 .ensures) (c .contents .ensures)
+    arrives (at-loop .loop .inv) (pre .1) (pre .0) (c .before .before .before .before .before .before .before .before .before .step .ensures) _ (c .before .enum-told .given .1) (c .contents .ensures)
 
 enum-told-2 : tie.Need-enum-told-2 Inv-loop μ-loop
 enum-told-2 c = search needs
@@ -102,20 +93,28 @@ contents-requires-2 : tie.Need-contents-requires-2 Inv-loop μ-loop
 contents-requires-2 c κs = search needs
 
 same-length-4 : tie.Need-same-length-4 Inv-loop μ-loop
-same-length-4 c = lengths (c .before .before .before .before .before .before .before .before .before .before .before .before .before .pre .1) (c .before .before .before .before .before .loop .inv .kept) .words
+same-length-4 c =
+    let at-loop = c .before .before .before .before .before .before .before .before .before .before .before .before .before in
+    let pre = at-loop .before .before .before .before .before .before .before .before .pre in
+    same-lengths (at-loop .loop .inv) (pre .1) (pre .0) (c .before .before .before .before .before .before .before .before .before .step .ensures) .words
 
 same-length-5 : tie.Need-same-length-5 Inv-loop μ-loop
-same-length-5 c = lengths (c .before .before .before .before .before .before .before .before .before .before .before .before .before .pre .1) (c .before .before .before .before .before .loop .inv .kept) .values
+same-length-5 c =
+    let at-loop = c .before .before .before .before .before .before .before .before .before .before .before .before .before in
+    let pre = at-loop .before .before .before .before .before .before .before .before .pre in
+    same-lengths (at-loop .loop .inv) (pre .1) (pre .0) (c .before .before .before .before .before .before .before .before .before .step .ensures) .values
 
 same-length-6 : tie.Need-same-length-6 Inv-loop μ-loop
-same-length-6 c = lengths (c .before .before .before .before .before .before .before .before .before .before .before .before .before .pre .1) (c .before .before .before .before .before .loop .inv .kept) .errors
+same-length-6 c =
+    let at-loop = c .before .before .before .before .before .before .before .before .before .before .before .before .before in
+    let pre = at-loop .before .before .before .before .before .before .before .before .pre in
+    same-lengths (at-loop .loop .inv) (pre .1) (pre .0) (c .before .before .before .before .before .before .before .before .before .step .ensures) .errors
 
 returns-2 : tie.Need-returns-2 Inv-loop μ-loop
 returns-2 c =
-    let at-loop = c .before .before .before .before .before in
-    let found = c .before .before .before .before .record-at in
+    let at-loop = c .before .before .before .before .before .before .before .before .before .before .before .before .before in
     let pre = at-loop .before .before .before .before .before .before .before .before .pre in
-    never-bad (at-loop .loop .inv) (pre .1) (found .result) (found .ensures) (pre .0) (cc)
+    never-bad (at-loop .loop .inv) (pre .1) (pre .0) (c .before .before .before .before .before .before .before .before .before .step .ensures) (c .before .enum-told2 .given .1)
 
 pub store-spec : {M : Type 1} → statement M
 store-spec =
@@ -123,19 +122,16 @@ store-spec =
     (tie.spec
     Inv-loop
     μ-loop
-    shared-slice-read-t13
+    shared-slice-read-t12
     eight-bytes-requires
     eight-bytes-requires-2
     loop-holds
-    record-at-requires
-    judge-requires
+    step-requires
     enum-known-judged
-    put-requires
     add-at
     loop-less
     loop-again
     enum-told
-    put-requires-2
     contents-requires
     same-length
     same-length-2

@@ -134,10 +134,15 @@ module _ {f ws vs es : List ℕ} {p : Plan} {at : ℕ} {t : Tally} {w v e : List
   ready =
       let l = lengths m (s .kept) in
       let k = s .kept .so-far in
-      let n = subst (λ (u : Tally). (u .«next_line» ≤ u .lines) × (u .lines ≤ 2048)) (s .tally) (k .sound, k .few-lines) in
-      (s .place .within
-      , record { rooms = record { words = omega (arith, l .words, m .words); values = omega (arith, l .values, m .values); errors = omega (arith, l .errors, m .errors) }
-               ; rule = rule t (recordAt f at) allowed; sound = n .0; few-lines = n .1 })
+      let n = subst (λ (u : Tally). (u .«next_line» ≤ u .lines) × (u .lines ≤ 2048)) (s .tally) (k .sound, k .few-lines) in (
+        s .place .within,
+        record {
+          rooms = record { words = omega (arith, l .words, m .words); values = omega (arith, l .values, m .values); errors = omega (arith, l .errors, m .errors) };
+          rule = rule t (recordAt f at) allowed;
+          sound = n .0;
+          few-lines = n .1;
+        },
+      )
 
   module _ {j : Judged} {w′ v′ e′ : List ℕ} (q : Stepped f at t j w v e w′ v′ e′) where
     held : (h : Rule (tallyOf (s .read)) (recordAt f at)) → Holds (grow (s .read) (recordAt f at)) p ws vs es w′ v′ e′
@@ -164,11 +169,15 @@ module _ {f ws vs es : List ℕ} {p : Plan} {at : ℕ} {t : Tally} {w v e : List
         let y = at-end f at t stands x in
         let d = grow c (End (y .0) (y .1)) in
         let h : Holds d p ws vs es w′ v′ e′ =
-            subst (λ (z : FileRecord). Holds (grow c z) p ws vs es w′ v′ e′) (y .2) (held (rule (tallyOf c) (recordAt f at) g)) in
+        subst (λ (z : FileRecord). Holds (grow c z) p ws vs es w′ v′ e′) (y .2) (held (rule (tallyOf c) (recordAt f at) g)) in
         let o : decode f ≡ accepted d = a .1 ∙ sym (closed-so (eqb (length f - at) 13) d (at + 13) (a .0) (sym (y .3) ∙ a .1)) in
         let n : k ≡ counted d = known ∙ ap₂ contentsWith (sym (s .kept .plan)) (sym (s .tally)) ∙ sym (counted-end c (y .0) (y .1)) in
-        record { answer = ap accepted n ∙ sym (ap countsOf o); words = h .words ∙ sym (ap (left (λ c. over (c .words) ws) ws) o)
-               ; values = h .values ∙ sym (ap (left (λ c. over (c .values) vs) vs) o); errors = h .errors ∙ sym (ap (left (λ c. over (c .errors) es) es) o) }
+        record {
+          answer = ap accepted n ∙ sym (ap countsOf o);
+          words = h .words ∙ sym (ap (left (λ c. over (c .words) ws) ws) o);
+          values = h .values ∙ sym (ap (left (λ c. over (c .values) vs) vs) o);
+          errors = h .errors ∙ sym (ap (left (λ c. over (c .errors) es) es) o);
+        }
 
     pub never-bad : {A : Type 0} → j ≡ Bad → A
     never-bad is = never (sym (stopped f at t stands (sym (q .judgement) ∙ is)) ∙ a .1)

@@ -2,10 +2,11 @@
 use Prim.Native.Nat.{ℕ, _+_, _≤_}
 use mathlib.Core.Path.{_≡_}
 use mathlib.Core.List.{List, _++_}
+use lib.Dec.{ltb}
 use lib.ListN.{drop, take, set}
 use Rattle.terms.specs.Outcome.{Outcome, accepted, refused, left}
 use Rattle.terms.specs.Numbers.{pick}
-use Rattle.workfile.specs.Content.{Content, mostFileLines}
+use Rattle.workfile.specs.Content.{Content, mostWords, mostFileLines}
 use Rattle.workfile.specs.Decode.{recordOf, size, isEnd, fits, padTo, decode}
 use Rattle.workfile.specs.Rules.{Rule}
 use Rattle.workfile.specs.Promises.{over, countsOf, Rooms}
@@ -18,6 +19,10 @@ use Rattle.reader.specs.declared.Judged.{Judged}
 use Rattle.reader.specs.declared.Judged.the-variants.{Next, Last, Bad}
 use Rattle.reader.specs.declared.Checked.{Checked}
 use Rattle.reader.specs.declared.Checked.the-variants.{Legal, Broken}
+
+-- the first number of entries that is not met, or 0
+unfoldable pub roomNeeded : ℕ → ℕ → ℕ → ℕ
+roomNeeded words values errors = pick (ltb words mostWords) mostWords (pick (ltb values mostFileLines) mostFileLines (pick (ltb errors mostFileLines) mostFileLines 0))
 
 -- the record at a place of a file
 unfoldable pub recordAt : List ℕ → ℕ → FileRecord

@@ -9,7 +9,7 @@ use workfile::Tally;
 ghost use mathlib.Core.Path.{_≡_};
 ghost use Rattle.workfile.specs.Decode.{decode};
 ghost use Rattle.workfile.specs.Promises.{ReadPromise};
-ghost use Rattle.reader.specs.Steps.{checkOf};
+ghost use Rattle.reader.specs.Steps.{roomNeeded, checkOf};
 
 // A record judged by the rules: the counts with it and its length; Z; or a broken rule.
 pub enum Judged {
@@ -63,18 +63,29 @@ fn check(file: &[u8]) -> Checked
     }
 }
 
+// The first number of entries that is not met, or 0 where there is room for every legal file.
+fn room_needed(words: usize, values: usize, errors: usize) -> usize
+    ensures { λ r. ⌜ r ≡ roomNeeded words values errors ⌝ }
+{
+    if words < workfile::MOST_WORDS {
+        return workfile::MOST_WORDS;
+    }
+    if values < workfile::MOST_FILE_LINES {
+        return workfile::MOST_FILE_LINES;
+    }
+    if errors < workfile::MOST_FILE_LINES {
+        return workfile::MOST_FILE_LINES;
+    }
+    0
+}
+
 // The content of a working file goes to the buffers; 18 before 17, and a refused call changes nothing.
 pub fn read(file: &[u8], words: &mut [u64], values: &mut [u64], errors: &mut [u64]) -> ReadAnswer
     ensures { λ r. ⌜ ReadPromise (now (file .entry)) (now (words .entry)) (now (values .entry)) (now (errors .entry)) r (now (words .exit)) (now (values .exit)) (now (errors .exit)) ⌝ }
 {
-    if words.len() < workfile::MOST_WORDS {
-        return ReadAnswer::Refused(Refusal::RoomTooShort(workfile::MOST_WORDS as u64));
-    }
-    if values.len() < workfile::MOST_FILE_LINES {
-        return ReadAnswer::Refused(Refusal::RoomTooShort(workfile::MOST_FILE_LINES as u64));
-    }
-    if errors.len() < workfile::MOST_FILE_LINES {
-        return ReadAnswer::Refused(Refusal::RoomTooShort(workfile::MOST_FILE_LINES as u64));
+    let needed = room_needed(words.len(), values.len(), errors.len());
+    if needed > 0 {
+        return ReadAnswer::Refused(Refusal::RoomTooShort(needed as u64));
     }
     match check(file) {
         Checked::Broken(at) => ReadAnswer::Refused(Refusal::FileBreaksRule(at as u64)),

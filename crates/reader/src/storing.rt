@@ -81,6 +81,7 @@ fn contents(plan: Plan, tally: Tally) -> Contents
     }
 }
 
+// The whole pass; answers the plan and the counts.
 pub fn store(file: &[u8], words: &mut [u64], values: &mut [u64], errors: &mut [u64]) -> Contents
     requires { ⌜ IsLegal (now file) × Rooms (now words) (now values) (now errors) ⌝ }
     ensures { λ r. ⌜ Stored (now (file .entry)) (now (words .entry)) (now (values .entry)) (now (errors .entry)) r (now (words .exit)) (now (values .exit)) (now (errors .exit)) ⌝ }
@@ -107,6 +108,7 @@ pub fn store(file: &[u8], words: &mut [u64], values: &mut [u64], errors: &mut [u
             Judged::Last => {
                 return contents(plan, tally);
             }
+            // Not met in a legal file.
             Judged::Bad => {
                 return contents(plan, tally);
             }

@@ -1,15 +1,17 @@
 -- The longest legal file has 45,663 bytes, and the first 45,664 bytes of an input decide it. Assumes nothing.
 use Prim.Native.Nat.{ℕ, zero, suc, _+_, _-_, _<_, _≤_}
 use mathlib.Core.Path.{_≡_, refl, ap, ap₂, sym, _∙_}
+use mathlib.Core.Logic.{⊎-elim}
 use mathlib.Core.List.{List}
 use mathlib.Core.Bool.{Bool, true, false, _&&_}
 use native.Mathlib.Omega.{arith}
 use lib.Dec.{eqb}
 use borrow.Author.Tests.{le-leb, ne-eqb}
 use lib.ListN.{length, take, drop, length-drop}
-use lib.Seq.{getD-take, length-take-le}
+use lib.Seq.{getD-take, length-take-le, take-all}
 use Rattle.terms.specs.Outcome.{Outcome, accepted, refused}
 use Rattle.terms.specs.Numbers.{pick}
+use Rattle.terms.proofs.Tests.{le-or-lt}
 use Rattle.workfile.specs.Numbers.{Bytes, littleEndian}
 use Rattle.workfile.specs.Content.{Content, longestFile}
 use Rattle.workfile.specs.Decode.{size, isEnd, recordOf, tallyOf, fits, grow, closed, run, hasPlan, planOf, start, decode}
@@ -75,10 +77,9 @@ plan-cut f =
     let ae : littleEndian 8 (drop 10 (take 45664 f)) ≡ littleEndian 8 (drop 10 f) = ap (littleEndian 8) (drop-take 10 45664 f) ∙ number-of-front 8 45654 (drop 10 f) (omega arith) in
     λ i. record { level = level i; te = te i; ae = ae i }
 
--- whether a longer input is refused, and where, is decided by its first 45,664 bytes
-pub first-decide : (f : List ℕ) → 45664 < length f → decode f ≡ decode (take 45664 f)
+longer-decide : (f : List ℕ) → 45664 < length f → decode f ≡ decode (take 45664 f)
 unfolding decode
-first-decide f h =
+longer-decide f h =
     let long = length-take-le 45664 f (omega arith) in
     let left = length-drop 18 f in
     let runs : run (length f) (start (planOf f)) 18 (drop 18 f) ≡ run 45664 (start (planOf f)) 18 (take 45646 (drop 18 f)) =
@@ -90,3 +91,7 @@ first-decide f h =
     ap₂ (λ (x : ℕ) (t : Bool). eqb x 0x50 && t) (sym (getD-take 45664 f 0 0 (omega arith)))
     (le-leb 18 (length f) (omega arith) ∙ sym (le-leb 18 (length (take 45664 f)) (omega arith))) in
     ap₂ (λ (t : Bool) (o : Outcome Content). pick t o (refused 17 0)) has (runs ∙ again)
+
+-- whether an input is refused, and where, is decided by its first 45,664 bytes
+pub first-decide : (f : List ℕ) → decode f ≡ decode (take 45664 f)
+first-decide f = ⊎-elim (λ h. ap decode (sym (take-all 45664 f h))) (longer-decide f) (le-or-lt (length f) 45664)

@@ -170,14 +170,14 @@ pub read-of-one-file : {f g w v e w₁ v₁ e₁ w₂ v₂ e₂ : List ℕ} {r q
 read-of-one-file {f} {g} {w₁} {v₁} {e₁} {w₂} {v₂} {e₂} k bf bg p q a c same =
     no-second-file f g (heldBy k w₁ v₁ e₁) bf bg (held k p a) (held k q c ∙ ap accepted (sym same))
 
--- a longer input is read as its first 45,664 bytes are
-first-read : (f : List ℕ) (w v e : ℕ) → 45664 < length f → readOf f w v e ≡ readOf (take 45664 f) w v e
+-- an input is read as its first 45,664 bytes are
+first-read : (f : List ℕ) (w v e : ℕ) → readOf f w v e ≡ readOf (take 45664 f) w v e
 unfolding readOf
-first-read f w v e h = ap (withRoom w v e) (first-decide f h)
+first-read f w v e = ap (withRoom w v e) (first-decide f)
 
-pub long-input : {f w v e w′ v′ e′ : List ℕ} {r : ReadAnswer} → 45664 < length f → ReadPromise f w v e r w′ v′ e′ → ReadPromise (take 45664 f) w v e r w′ v′ e′
-long-input {f} {w} {v} {e} h p =
-    let o = first-read f (length w) (length v) (length e) h in
+pub first-bytes : {f w v e w′ v′ e′ : List ℕ} {r : ReadAnswer} → ReadPromise f w v e r w′ v′ e′ → ReadPromise (take 45664 f) w v e r w′ v′ e′
+first-bytes {f} {w} {v} {e} p =
+    let o = first-read f (length w) (length v) (length e) in
     record {
       answer = p .answer ∙ ap countsOf o;
       words-left = p .words-left ∙ ap (left (λ c. over (c .words) w) w) o;

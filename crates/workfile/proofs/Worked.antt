@@ -8,6 +8,7 @@ use Rattle.terms.specs.Outcome.{accepted, refused}
 use Rattle.workfile.specs.Numbers.{littleEndian}
 use Rattle.workfile.specs.Content.{Content, encode}
 use Rattle.workfile.specs.Decode.{decode, run, recordOf, fits, grow}
+use Rattle.workfile.specs.Promises.{readOf, writeOf}
 
 practice : Content
 practice =
@@ -51,3 +52,16 @@ cut-short = refl
 empty : decode [] ≡ refused 17 0
 unfolding decode
 empty = refl
+
+-- the rooms: one entry short, one byte short, and enough
+entry-short : readOf practiceFile 64 2048 2047 ≡ refused 18 2048
+unfolding readOf
+entry-short = refl
+
+byte-short : writeOf practice 123 ≡ refused 18 124
+unfolding practice writeOf encode
+byte-short = refl
+
+room-enough : writeOf practice 124 ≡ accepted practiceFile
+unfolding practice practiceFile writeOf encode
+room-enough = refl

@@ -1,0 +1,5 @@
+-- What the proofs of several functions use, and what callers cite.
+pub mod Runs
+pub mod Digits
+pub mod Cuts
+pub mod Lines

@@ -3,3 +3,6 @@ pub mod Runs
 pub mod Digits
 pub mod Cuts
 pub mod Lines
+pub mod Growing
+pub mod Storing
+pub mod Passing

@@ -2,3 +2,4 @@ pub mod Text
 pub mod Records
 pub mod Steps
 pub mod Contents
+pub mod Parse

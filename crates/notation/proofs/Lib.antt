@@ -6,3 +6,4 @@ pub mod Lines
 pub mod Growing
 pub mod Storing
 pub mod Passing
+pub mod Answers

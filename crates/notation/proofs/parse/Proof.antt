@@ -1,69 +1,64 @@
+-- `notation::parse` meets its contract: the rooms are tested, then one pass judges and a second stores. Assumes nothing.
 use borrow.Author.Needs.{needs}
+use Rattle.notation.specs.Parse.{Rooms}
+use Rattle.notation.proofs.Answers.{no-words, no-values, no-errors, found-faulty, found-whole}
 use Rattle.notation.proofs.parse.Statement.{statement}
 use Rattle.notation.proofs.parse.Tie as tie
-use Rattle.notation.proofs.parse.Reads as reads
-use Rattle.notation.proofs.parse.Lts as lts
-use Rattle.notation.proofs.pass.Reads as pass-reads
 
--- src/lib.rt:173:9
 returns : tie.Need-returns
-returns c = ?
+returns c = no-words _ _ _ _ (c .if1 .taken)
 
--- src/lib.rt:176:9
 returns-2 : tie.Need-returns-2
-returns-2 c = ?
+returns-2 c = no-values _ _ _ _ (c .before .if1 .left) (c .if2 .taken)
 
--- src/lib.rt:179:9
 returns-3 : tie.Need-returns-3
-returns-3 c = ?
+returns-3 c = no-errors _ _ _ _ (c .before .before .if1 .left) (c .before .if2 .left) (c .if3 .taken)
 
--- src/lib.rt:181:11
 pass-requires : tie.Need-pass-requires
 pass-requires c κs = search needs
 
--- src/lib.rt:182:29
 enum-known-fault : tie.Need-enum-known-fault
 enum-known-fault c = search needs
 
--- src/lib.rt:183:52
 enum-told : tie.Need-enum-told
 enum-told c = search needs
 
--- src/lib.rt:183:35
 pass-requires-2 : tie.Need-pass-requires-2
 pass-requires-2 c κs = search needs
 
--- src/lib.rt:169:1
 same-length : tie.Need-same-length
 same-length c = search needs
 
--- src/lib.rt:169:1
 same-length-2 : tie.Need-same-length-2
 same-length-2 c = search needs
 
--- src/lib.rt:169:1
 same-length-3 : tie.Need-same-length-3
 same-length-3 c = search needs
 
--- src/lib.rt:169:1
 returns-4 : tie.Need-returns-4
-returns-4 c = ?
+returns-4 c =
+    let passed = c .before .before .before .before .before .before .before .before .before in
+    let roomy = passed .before .before .before .before in
+    found-faulty (record { words = roomy .before .before .if1 .left; values = roomy .before .if2 .left; errors = roomy .if3 .left }) (passed .pass .ensures)
+    (c .before .fault .given .1)
 
--- src/lib.rt:169:1
 same-length-4 : tie.Need-same-length-4
 same-length-4 c = search needs
 
--- src/lib.rt:169:1
 same-length-5 : tie.Need-same-length-5
 same-length-5 c = search needs
 
--- src/lib.rt:169:1
 same-length-6 : tie.Need-same-length-6
 same-length-6 c = search needs
 
--- src/lib.rt:169:1
 returns-5 : tie.Need-returns-5
-returns-5 c = ?
+returns-5 c =
+    let stored = c .before .before .before .before .before .before in
+    let told = stored .before .before .before .before in
+    let passed = told .before .before .before .before .before .before .before .before in
+    let roomy = passed .before .before .before .before in
+    found-whole (record { words = roomy .before .before .if1 .left; values = roomy .before .if2 .left; errors = roomy .if3 .left }) (passed .pass .ensures)
+    (told .enum-told .given .1) (stored .pass2 .ensures)
 
 pub parse-spec : {M : Type 1} → statement M
 parse-spec =

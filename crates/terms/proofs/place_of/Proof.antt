@@ -1,160 +1,122 @@
+-- `terms::place_of` meets its contract: at each arm of the match the refusal is the arm's case. The search for a proof reads an enum of at most
+-- seventeen cases by itself. Assumes nothing.
 use mathlib.Core.Path.{sym, ap}
 use Rattle.terms.specs.Refusals.{place}
 use borrow.Author.Needs.{needs}
 use Rattle.terms.proofs.place_of.Statement.{statement}
 use Rattle.terms.proofs.place_of.Tie as tie
-use Rattle.terms.proofs.place_of.Reads as reads
-use Rattle.terms.proofs.place_of.Lts as lts
 
--- src/lib.rt:73:34
 enum-told : tie.Need-enum-told
 enum-told c = search needs
 
--- src/lib.rt:74:34
 enum-told-2 : tie.Need-enum-told-2
 enum-told-2 c = search needs
 
--- src/lib.rt:75:32
 enum-known-refusal : tie.Need-enum-known-refusal
 enum-known-refusal c = search needs
 
--- src/lib.rt:76:32
 enum-known-refusal-2 : tie.Need-enum-known-refusal-2
 enum-known-refusal-2 c = search needs
 
--- src/lib.rt:77:31
 enum-told-3 : tie.Need-enum-told-3
 enum-told-3 c = search needs
 
--- src/lib.rt:78:41
 enum-told-4 : tie.Need-enum-told-4
 enum-told-4 c = search needs
 
--- src/lib.rt:79:36
 enum-told-5 : tie.Need-enum-told-5
 enum-told-5 c = search needs
 
--- src/lib.rt:80:29
 enum-told-6 : tie.Need-enum-told-6
 enum-told-6 c = search needs
 
--- src/lib.rt:81:33
 enum-told-7 : tie.Need-enum-told-7
 enum-told-7 c = search needs
 
--- src/lib.rt:82:38
 enum-told-8 : tie.Need-enum-told-8
 enum-told-8 c = search needs
 
--- src/lib.rt:83:37
 enum-told-9 : tie.Need-enum-told-9
 enum-told-9 c = search needs
 
--- src/lib.rt:84:31
 enum-known-refusal-3 : tie.Need-enum-known-refusal-3
 enum-known-refusal-3 c = search needs
 
--- src/lib.rt:85:35
 enum-told-10 : tie.Need-enum-told-10
 enum-told-10 c = search needs
 
--- src/lib.rt:86:34
 enum-known-refusal-4 : tie.Need-enum-known-refusal-4
 enum-known-refusal-4 c = search needs
 
--- src/lib.rt:87:32
 enum-known-refusal-5 : tie.Need-enum-known-refusal-5
 enum-known-refusal-5 c = search needs
 
--- src/lib.rt:88:35
 enum-told-11 : tie.Need-enum-told-11
 enum-told-11 c = search needs
 
--- src/lib.rt:89:33
 enum-known-refusal-6 : tie.Need-enum-known-refusal-6
 enum-known-refusal-6 c = search needs
 
--- src/lib.rt:90:31
 enum-known-refusal-7 : tie.Need-enum-known-refusal-7
 enum-known-refusal-7 c = search needs
 
--- src/lib.rt:91:33
 enum-told-12 : tie.Need-enum-told-12
 enum-told-12 c = search needs
 
--- src/lib.rt:69:1
 returns : tie.Need-returns
 returns c = sym (ap place (c .enum-told .given .1))
 
--- src/lib.rt:69:1
 returns-2 : tie.Need-returns-2
 returns-2 c = sym (ap place (c .enum-told2 .given .1))
 
--- src/lib.rt:69:1
 returns-3 : tie.Need-returns-3
 returns-3 c = sym (ap place (c .before .refusal .given .1))
 
--- src/lib.rt:69:1
 returns-4 : tie.Need-returns-4
 returns-4 c = sym (ap place (c .before .refusal2 .given .1))
 
--- src/lib.rt:69:1
 returns-5 : tie.Need-returns-5
 returns-5 c = sym (ap place (c .enum-told3 .given .1))
 
--- src/lib.rt:69:1
 returns-6 : tie.Need-returns-6
 returns-6 c = sym (ap place (c .enum-told4 .given .1))
 
--- src/lib.rt:69:1
 returns-7 : tie.Need-returns-7
 returns-7 c = sym (ap place (c .enum-told5 .given .1))
 
--- src/lib.rt:69:1
 returns-8 : tie.Need-returns-8
 returns-8 c = sym (ap place (c .enum-told6 .given .1))
 
--- src/lib.rt:69:1
 returns-9 : tie.Need-returns-9
 returns-9 c = sym (ap place (c .enum-told7 .given .1))
 
--- src/lib.rt:69:1
 returns-10 : tie.Need-returns-10
 returns-10 c = sym (ap place (c .enum-told8 .given .1))
 
--- src/lib.rt:69:1
 returns-11 : tie.Need-returns-11
 returns-11 c = sym (ap place (c .enum-told9 .given .1))
 
--- src/lib.rt:69:1
 returns-12 : tie.Need-returns-12
 returns-12 c = sym (ap place (c .before .refusal3 .given .1))
 
--- src/lib.rt:69:1
 returns-13 : tie.Need-returns-13
 returns-13 c = sym (ap place (c .enum-told10 .given .1))
 
--- src/lib.rt:69:1
 returns-14 : tie.Need-returns-14
 returns-14 c = sym (ap place (c .before .refusal4 .given .1))
 
--- src/lib.rt:69:1
 returns-15 : tie.Need-returns-15
 returns-15 c = sym (ap place (c .before .refusal5 .given .1))
 
--- src/lib.rt:69:1
 returns-16 : tie.Need-returns-16
 returns-16 c = sym (ap place (c .enum-told11 .given .1))
 
--- src/lib.rt:69:1
 returns-17 : tie.Need-returns-17
 returns-17 c = sym (ap place (c .before .refusal6 .given .1))
 
--- src/lib.rt:69:1
 returns-18 : tie.Need-returns-18
 returns-18 c = sym (ap place (c .before .refusal7 .given .1))
 
--- src/lib.rt:69:1
 returns-19 : tie.Need-returns-19
 returns-19 c = sym (ap place (c .enum-told12 .given .1))
 

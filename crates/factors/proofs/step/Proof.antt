@@ -1,0 +1,83 @@
+-- `factors::step` meets its contract: both factors are at most 8407, so no difference leaves 64 bits. Assumes nothing.
+use mathlib.Core.Path.{_≡_, sym, ap₂, _∙_}
+use Prim.Native.Nat.{ℕ, _+_, _≤_}
+use native.Mathlib.Nat.{le-trans, le-of-eq}
+use native.Mathlib.Omega.{arith}
+use borrow.Author.Needs.{needs}
+use lib.IntN.{pos, _-ℤ_}
+use mir.Facts.{toZ-ofZ, toZ-pos}
+use mir.Syntax.{w64}
+use mir.Val.{SFits, toZ, ofZ}
+use Rattle.terms.proofs.Differences.{minus, mag-sub}
+use Rattle.factors.specs.declared.Level.{Level}
+use Rattle.factors.specs.Factors.{Reliability}
+use Rattle.factors.proofs.Shape.{rf-top}
+use Rattle.factors.proofs.Steps.{less-hundred, step-at, step-none, step-past}
+use Rattle.factors.proofs.step.Statement.{statement}
+use Rattle.factors.proofs.step.Tie as tie
+
+top : {l : Level} {k a : ℕ} → Reliability l k a → a ≤ 8407
+top {l} {k} r = le-trans (le-of-eq (r .value)) (rf-top l k)
+
+-- two factors a and b, read as signed: their difference fits, and so does it less a hundred
+module _ (a b : ℕ) (h : a ≤ 8407) (g : b ≤ 8407) where
+  small : (n : ℕ) → n ≤ 8407 → toZ w64 n ≡ pos n
+  small n l = toZ-pos w64 (omega arith)
+
+  differ : SFits w64 (toZ w64 a -ℤ toZ w64 b)
+  differ = rw (small a h, small b g, minus a b) (record { sfits = mag-sub a b (omega arith) (omega arith) })
+
+  differ-2 : SFits w64 (toZ w64 (ofZ w64 (toZ w64 a -ℤ toZ w64 b)) -ℤ pos 100)
+  differ-2 =
+      rw (toZ-ofZ differ, small a h, small b g, less-hundred a b) (record { sfits = mag-sub a (b + 100) (omega arith) (omega arith) })
+
+  worth : toZ w64 (ofZ w64 (toZ w64 (ofZ w64 (toZ w64 a -ℤ toZ w64 b)) -ℤ pos 100)) ≡ (pos a -ℤ pos b) -ℤ pos 100
+  worth = rw (toZ-ofZ differ-2, toZ-ofZ differ, small a h, small b g)
+
+returns : tie.Need-returns
+returns c = sym (step-none _ _ (c .if1 .taken))
+
+returns-2 : tie.Need-returns-2
+returns-2 c = sym (step-past _ _ (c .if2 .taken))
+
+reliability-requires : tie.Need-reliability-requires
+reliability-requires c κs = search needs
+
+cast-factor : tie.Need-cast-factor
+cast-factor c = record { sfits = omega (arith, top (c .reliability .ensures)) }
+
+sub-reliability : tie.Need-sub-reliability
+sub-reliability c = search needs
+
+reliability-requires-2 : tie.Need-reliability-requires-2
+reliability-requires-2 c κs = search needs
+
+cast-former : tie.Need-cast-former
+cast-former c = record { sfits = omega (arith, top (c .reliability2 .ensures)) }
+
+sub-result : tie.Need-sub-result
+sub-result c = differ _ _ (top (c .before .reliability .ensures)) (top (c .reliability2 .ensures))
+
+sub-result-2 : tie.Need-sub-result-2
+sub-result-2 c = differ-2 _ _ (top (c .before .reliability .ensures)) (top (c .reliability2 .ensures))
+
+returns-3 : tie.Need-returns-3
+returns-3 c =
+    worth _ _ (top (c .before .reliability .ensures)) (top (c .reliability2 .ensures))
+    ∙ ap₂ (λ (a b : ℕ). (pos a -ℤ pos b) -ℤ pos 100) (c .before .reliability .ensures .value) (c .reliability2 .ensures .value)
+    ∙ sym (step-at _ _ (c .before .before .before .if1 .left) (c .before .before .if2 .left))
+
+pub step-spec : {M : Type 1} → statement M
+step-spec =
+    tie.close
+    (tie.spec
+    returns
+    returns-2
+    reliability-requires
+    cast-factor
+    sub-reliability
+    reliability-requires-2
+    cast-former
+    sub-result
+    sub-result-2
+    returns-3)

@@ -1,0 +1,90 @@
+-- The lines above a value and those that are not: lengths, sums and repeated parting. Assumes nothing.
+use mathlib.Core.Path.{_≡_, refl, sym, ap, _∙_}
+use mathlib.Core.List.{List, [], _∷_}
+use mathlib.Core.Logic.{⊎-elim}
+use Prim.Native.Nat.{ℕ, zero, suc, _+_, _-_, _*_, _/_, _≤_, _<_}
+use native.Mathlib.Nat.{suc-mul, add-mul, sub-add-cancel, lt-div-mul-add, lt-of-mul-lt-mul-right, div-lt-iff-lt-mul, mul-comm, le-trans, lt-of-le-of-lt}
+use native.Mathlib.Omega.{arith}
+use borrow.Author.Tests.{le-ltb, lt-ltb, le-leb, lt-leb}
+use native.Mathlib.Numerals.{add-one}
+use lib.ListN.{length, getD, drop}
+use lib.Seq.{drop-cons}
+use Rattle.terms.specs.Numbers.{sum}
+use Rattle.terms.proofs.Tests.{le-or-lt}
+use Rattle.split.specs.Rounds.{above, upTo, keep}
+
+-- the parts' totals add to the whole
+pub sum-parts : (j : ℕ) (l : List ℕ) → sum (above j l) + sum (upTo j l) ≡ sum l
+sum-parts j [] = refl
+sum-parts j (v ∷ l) =
+    let ih = sum-parts j l in
+    ⊎-elim (λ (h : v ≤ j). simp (le-ltb _ _ h, le-leb _ _ h) (omega arith)) (λ (h : j < v). simp (lt-ltb _ _ h, lt-leb _ _ h) (omega arith)) (le-or-lt v j)
+
+-- each line above j has at least j + 1
+pub above-many : (j : ℕ) (l : List ℕ) → length (above j l) * suc j ≤ sum (above j l)
+above-many j [] = omega arith
+above-many j (v ∷ l) =
+    let ih = above-many j l in
+    ⊎-elim (λ (h : v ≤ j). simp (le-ltb _ _ h) ih) (λ (h : j < v). simp (lt-ltb _ _ h, suc-mul) (omega arith)) (le-or-lt v j)
+
+-- where no line is above j, all remain
+pub none-above : (j : ℕ) (l : List ℕ) → length (above j l) ≡ 0 → upTo j l ≡ l
+none-above j [] e = refl
+none-above j (v ∷ l) e =
+    let ih = none-above j l in
+    ⊎-elim (λ (h : v ≤ j). simp (le-leb _ _ h, ih (simp (le-ltb _ _ h) at e))) (λ (h : j < v). absurd (omega (arith, simp (lt-ltb _ _ h) at e))) (le-or-lt v j)
+
+-- no line is above the total
+pub within-sum : (b : ℕ) (l : List ℕ) → sum l ≤ b → upTo b l ≡ l
+within-sum b [] h = refl
+within-sum b (v ∷ l) h =
+    let here : v ≤ b = omega arith in
+    simp (le-leb _ _ here, within-sum b l (omega arith))
+
+-- parting again at a smaller value
+pub upTo-upTo : (k j : ℕ) (l : List ℕ) → k ≤ j → upTo k (upTo j l) ≡ upTo k l
+upTo-upTo k j [] h = refl
+upTo-upTo k j (v ∷ l) h =
+    let ih = upTo-upTo k j l h in
+    ⊎-elim
+    (λ (p : v ≤ k). let q : v ≤ j = omega arith in simp (le-leb _ _ p, le-leb _ _ q, ih))
+    (λ (p : k < v). ⊎-elim (λ (q : v ≤ j). simp (lt-leb _ _ p, le-leb _ _ q, ih)) (λ (q : j < v). simp (lt-leb _ _ p, lt-leb _ _ q, ih)) (le-or-lt v j))
+    (le-or-lt v k)
+
+pub above-upTo : (k j : ℕ) (l : List ℕ) → k ≤ j → length (above k l) ≡ length (above j l) + length (above k (upTo j l))
+above-upTo k j [] h = refl
+above-upTo k j (v ∷ l) h =
+    let ih = above-upTo k j l h in
+    ⊎-elim
+    (λ (p : v ≤ k). let q : v ≤ j = omega arith in simp (le-ltb _ _ p, le-ltb _ _ q, le-leb _ _ q) ih)
+    (λ (p : k < v). ⊎-elim (λ (q : v ≤ j). simp (lt-ltb _ _ p, le-ltb _ _ q, le-leb _ _ q) (omega arith)) (λ (q : j < v). simp (lt-ltb _ _ p, lt-ltb _ _ q, lt-leb _ _ q) (omega arith)) (le-or-lt v j))
+    (le-or-lt v k)
+
+-- of lines up to b none is above b or more
+pub above-nothing : (j b : ℕ) (l : List ℕ) → b ≤ j → length (above j (upTo b l)) ≡ 0
+above-nothing j b [] h = refl
+above-nothing j b (v ∷ l) h =
+    let ih = above-nothing j b l h in
+    ⊎-elim (λ (p : v ≤ b). let q : v ≤ j = omega arith in simp (le-leb _ _ p, le-ltb _ _ q) ih) (λ (p : b < v). simp (lt-leb _ _ p) ih) (le-or-lt v b)
+
+-- a part's total is at most the whole's
+pub between-sum : (low high : ℕ) (l : List ℕ) → sum (above low (upTo high l)) ≤ sum l
+between-sum low high l = omega (arith, sum-parts low (upTo high l), sum-parts high l)
+
+-- What a line of a list adds to those above low and not above high, as a loop meets it.
+module _ (low high : ℕ) (l : List ℕ) (i : ℕ) (inside : i < length l) where
+  pub between-in : low < getD l i 0 → getD l i 0 ≤ high → above low (upTo high (drop i l)) ≡ getD l i 0 ∷ above low (upTo high (drop (i + 1) l))
+  between-in p q = rw (drop-cons l i 0) (simp (le-leb _ _ q, lt-ltb _ _ p, add-one))
+
+  pub between-high : high < getD l i 0 → above low (upTo high (drop i l)) ≡ above low (upTo high (drop (i + 1) l))
+  between-high p = rw (drop-cons l i 0) (simp (lt-leb _ _ p, add-one))
+
+  pub between-low : getD l i 0 ≤ low → above low (upTo high (drop i l)) ≡ above low (upTo high (drop (i + 1) l))
+  between-low p = ⊎-elim (λ (q : getD l i 0 ≤ high). rw (drop-cons l i 0) (simp (le-leb _ _ q, le-ltb _ _ p, add-one))) between-high (le-or-lt (getD l i 0) high)
+
+-- no line above 0 remains where J is 0: nothing is sampled
+pub upTo-zero : (l : List ℕ) → sum (upTo 0 l) ≡ 0
+upTo-zero [] = refl
+upTo-zero (v ∷ l) =
+    let ih = upTo-zero l in
+    ⊎-elim (λ (h : v ≤ 0). simp (le-leb _ _ h) (omega arith)) (λ (h : 0 < v). simp (lt-leb _ _ h) ih) (le-or-lt v 0)

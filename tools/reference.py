@@ -1,0 +1,583 @@
+#!/usr/bin/env python3
+"""Kanthiwop's reference: every step of monetary unit sampling, by definition.
+
+It is written from the rules alone, in exact whole numbers, to be read beside them. It shares nothing with the
+proved program, so that the two can be held against each other.
+
+An operation takes its inputs and its lent buffers (lists of numbers, or bytearrays), and returns its answer or a
+Refusal (number, place). It stores into a lent buffer only after its last check: a refused call leaves every buffer.
+
+    python3 tools/reference.py --self-test     the practice sheet, and the sums over all starts of random ledgers
+    python3 tools/reference.py --desk          the desk program: a working file in, its text out
+    python3 tools/reference.py --factors       the nine rows of sixty-four factors
+"""
+
+import functools
+import sys
+from typing import NamedTuple
+
+# Sizes.
+MOST_LINES = 1_000_000
+MOST_VALUE = 10**13
+MOST_TOTAL = 10**15
+MOST_INTERVAL = 4_000_000_000
+MOST_ERRORS = 63
+
+# Sizes of the working file.
+MOST_FILE_WORDS = 64
+MOST_FILE_LINES = 2_048
+MOST_SUM = 2**64 - 1
+
+# The expansion factor of each level, in hundredths; its keys are the nine levels.
+EF = {99: 190, 95: 160, 90: 150, 85: 140, 80: 130, 75: 125, 70: 120, 60: 110, 50: 100}
+
+# What a line ends as.
+NOT_DRAWN, DRAWN, FULL = 0, 1, 2
+
+
+class Refusal(NamedTuple):
+    number: int
+    place: int
+
+
+class Size(NamedTuple):
+    draws: int
+
+
+class Split(NamedTuple):
+    interval: int
+    draws_left: int
+    sampled_total: int
+    full_lines: int
+    full_total: int
+
+
+class Start(NamedTuple):
+    start: int
+    words_read: int
+
+
+class Draw(NamedTuple):
+    drawn_lines: int
+
+
+class Projection(NamedTuple):
+    full_sum: int
+    sampled_sum: int
+    m: int
+
+
+class Judgement(NamedTuple):
+    full_sum: int
+    sampled_sum: int
+    m: int
+    precision: int
+    upper_limit: int
+    verdict: str
+
+
+class Content(NamedTuple):
+    level: int
+    te: int
+    ae: int
+    words: int
+    lines: int
+
+
+class Length(NamedTuple):
+    length: int
+
+
+class Refused(Exception):
+    """Raised at the check that fails; an operation turns it into its answer."""
+
+    def __init__(self, number, place):
+        super().__init__(number, place)
+        self.refusal = Refusal(number, place)
+
+
+def operation(step):
+    """An operation returns its refusal."""
+
+    @functools.wraps(step)
+    def answer(*inputs):
+        try:
+            return step(*inputs)
+        except Refused as refused:
+            return refused.refusal
+
+    return answer
+
+
+def divide_up(amount, by):
+    """amount / by, rounded up."""
+    return -(-amount // by)
+
+
+# ---- Factors ----
+
+
+@functools.lru_cache(maxsize=64)
+def series(hundredths):
+    """The terms (hundredths/100)^i / i! for i from 0 to 256, all multiplied by 100^256 × 256!."""
+    term = 100**256
+    for i in range(1, 257):
+        term *= i
+    terms = [term]
+    for i in range(1, 257):
+        term = term * hundredths // (100 * i)  # leaves no remainder: 100^(256-i) × 256!/i! is whole
+        terms.append(term)
+    return terms
+
+
+def chance_is_small(level, k, hundredths):
+    """Whether the Poisson chance of k or fewer events with mean hundredths/100 is at most (100 - level) percent."""
+    terms = series(hundredths)
+    k_or_fewer = sum(terms[: k + 1])
+    least_power = sum(terms[:256])
+    most_power = least_power + 2 * terms[256]
+    by_least = 100 * k_or_fewer <= (100 - level) * least_power
+    by_most = 100 * k_or_fewer <= (100 - level) * most_power
+    assert by_least == by_most, "the two bounds of the exponential disagree"
+    return by_least
+
+
+@functools.lru_cache(maxsize=None)
+def RF(level, k):
+    """The least whole F whose chance is small. The chance falls as F grows, so halving finds it."""
+    no, yes = 0, 12_800
+    assert not chance_is_small(level, k, no) and chance_is_small(level, k, yes)
+    while yes - no > 1:
+        middle = (no + yes) // 2
+        if chance_is_small(level, k, middle):
+            yes = middle
+        else:
+            no = middle
+    return yes
+
+
+# ---- Checks that several steps make ----
+
+
+def check_level(level):
+    if level not in EF:
+        raise Refused(1, 0)
+
+
+def ledger_total(ledger, beside=None):
+    """The total of a legal ledger; beside is the marks or errors lent with it."""
+    if len(ledger) > MOST_LINES:
+        raise Refused(2, 0)
+    if beside is not None and len(beside) != len(ledger):
+        raise Refused(13, 0)
+    total = 0
+    for line, value in enumerate(ledger):
+        if value > MOST_VALUE:
+            raise Refused(3, line)
+        total += value
+        if total > MOST_TOTAL:
+            raise Refused(4, line)
+    if total == 0:
+        raise Refused(5, 0)
+    return total
+
+
+def check_te(te, total):
+    if te == 0 or te > total:
+        raise Refused(6, 0)
+
+
+def check_start(start, interval):
+    if start >= interval and not (interval == 0 and start == 0):
+        raise Refused(11, 0)
+
+
+# ---- Step 1: size ----
+
+
+def draws_needed(level, total, te, ae):
+    check_te(te, total)
+    if ae > total:
+        raise Refused(6, 0)
+    if 100 * te <= ae * EF[level]:
+        raise Refused(7, 0)
+    return divide_up(total * RF(level, 0), 100 * te - ae * EF[level])
+
+
+@operation
+def size(level, total, te, ae):
+    check_level(level)
+    if total > MOST_TOTAL:
+        raise Refused(4, 0)
+    if total == 0:
+        raise Refused(5, 0)
+    return Size(draws_needed(level, total, te, ae))
+
+
+# ---- Step 2: split ----
+
+
+class Rounds(NamedTuple):
+    """What the split ends with: the interval of each round, the sampled lines, the full lines, draws left."""
+
+    intervals: list
+    sampled: list
+    full: list
+    draws_left: int
+
+
+def split_rounds(ledger, n):
+    """Rounds on the list of the remaining lines, until no line is above the interval."""
+    remaining, full, draws_left, intervals = list(range(len(ledger))), [], n, []
+    while True:
+        remaining_total = sum(ledger[line] for line in remaining)
+        if remaining_total > 0 and draws_left <= 0:
+            raise Refused(9, 0)
+        interval = remaining_total // draws_left if remaining_total > 0 else 0
+        intervals.append(interval)
+        above = [line for line in remaining if ledger[line] > interval]
+        if not above:
+            return Rounds(intervals, remaining, sorted(full), draws_left)
+        full += above
+        draws_left -= len(above)
+        remaining = [line for line in remaining if ledger[line] <= interval]
+
+
+def finished_split(ledger, n):
+    """The split of a legal ledger: its figures and its rounds."""
+    if n == 0:
+        raise Refused(8, 0)
+    rounds = split_rounds(ledger, n)
+    interval = rounds.intervals[-1]
+    if interval > MOST_INTERVAL:
+        raise Refused(10, 0)
+    sampled_total = sum(ledger[line] for line in rounds.sampled)
+    full_total = sum(ledger[line] for line in rounds.full)
+    return Split(interval, rounds.draws_left, sampled_total, len(rounds.full), full_total), rounds
+
+
+@operation
+def split(ledger, n, marks):
+    ledger_total(ledger, marks)
+    figures, rounds = finished_split(ledger, n)
+    for line in rounds.sampled:
+        marks[line] = NOT_DRAWN
+    for line in rounds.full:
+        marks[line] = FULL
+    return figures
+
+
+@operation
+def split_intervals(ledger, n):
+    """The interval of every round, for the reader: the split's answer holds the last."""
+    ledger_total(ledger)
+    return finished_split(ledger, n)[1].intervals
+
+
+# ---- Step 3: start ----
+
+
+@operation
+def start(interval, words):
+    if interval > MOST_INTERVAL:
+        raise Refused(10, 0)
+    if interval <= 1:
+        return Start(0, 0)
+    bits = (interval - 1).bit_length()
+    for words_read, word in enumerate(words, start=1):
+        low_bits = word % 2**bits
+        if low_bits < interval:
+            return Start(low_bits, words_read)
+    raise Refused(12, len(words))
+
+
+# ---- Step 4: draw ----
+
+
+def drawn_lines(ledger, sampled, interval, first_point):
+    """The sampled lines that cover one of the cents first_point, first_point + interval, and so on."""
+    if interval == 0:
+        return []
+    drawn, line_begins, point = [], 0, first_point
+    for line in sampled:
+        line_ends = line_begins + ledger[line]
+        if line_begins <= point < line_ends:
+            drawn.append(line)
+        while point < line_ends:
+            point += interval
+        line_begins = line_ends
+    return drawn
+
+
+def states_of_lines(ledger, n, first_point):
+    """The interval, and what each line of a legal ledger ends as."""
+    figures, rounds = finished_split(ledger, n)
+    check_start(first_point, figures.interval)
+    states = [NOT_DRAWN] * len(ledger)
+    for line in rounds.full:
+        states[line] = FULL
+    for line in drawn_lines(ledger, rounds.sampled, figures.interval, first_point):
+        states[line] = DRAWN
+    return figures.interval, states
+
+
+@operation
+def draw(ledger, n, first_point, marks):
+    ledger_total(ledger, marks)
+    _, states = states_of_lines(ledger, n, first_point)
+    marks[:] = states if isinstance(marks, list) else bytes(states)
+    return Draw(states.count(DRAWN))
+
+
+# ---- Step 5: projection ----
+
+
+def projected(state, value, error, interval):
+    """The projected amount of a line, rounded up once."""
+    if state == FULL:
+        return error
+    if state == DRAWN:
+        return divide_up(error * interval, value)
+    return 0
+
+
+def check_errors(ledger, errors, states):
+    for line, (value, error, state) in enumerate(zip(ledger, errors, states)):
+        if error > value:
+            raise Refused(14, line)
+        if error > 0 and state == NOT_DRAWN:
+            raise Refused(15, line)
+
+
+def amounts_of_lines(ledger, n, first_point, errors):
+    """The interval, each line's state and its projected amount."""
+    interval, states = states_of_lines(ledger, n, first_point)
+    check_errors(ledger, errors, states)
+    amounts = [projected(*line, interval) for line in zip(states, ledger, errors)]
+    return interval, states, amounts
+
+
+def projection_of(states, amounts, errors):
+    """Both sums, and how many drawn lines have an error above 0."""
+    full_sum = sum(amount for state, amount in zip(states, amounts) if state == FULL)
+    sampled_sum = sum(amount for state, amount in zip(states, amounts) if state == DRAWN)
+    m = sum(1 for state, error in zip(states, errors) if state == DRAWN and error > 0)
+    return Projection(full_sum, sampled_sum, m)
+
+
+@operation
+def project(ledger, n, first_point, errors):
+    ledger_total(ledger, errors)
+    _, states, amounts = amounts_of_lines(ledger, n, first_point, errors)
+    return projection_of(states, amounts, errors)
+
+
+# ---- Steps 6 and 7: upper limit and verdict ----
+
+
+def precision_of(level, interval, amounts):
+    """The steps times the amounts sorted downwards, with sign, rounded up once at the end."""
+    hundredths = interval * RF(level, 0)
+    for i, amount in enumerate(sorted(amounts, reverse=True), start=1):
+        step = RF(level, i) - RF(level, i - 1) - 100
+        hundredths += step * amount
+    return divide_up(hundredths, 100)
+
+
+def verdict_of(projected_error, upper_limit, te):
+    if projected_error > te:
+        return "above"
+    if upper_limit <= te:
+        return "below"
+    return "inconclusive"
+
+
+def judgement_of(level, interval, states, amounts, errors, te):
+    full_sum, sampled_sum, m = projection_of(states, amounts, errors)
+    if m > MOST_ERRORS:
+        raise Refused(16, 0)
+    with_error = [a for state, a, error in zip(states, amounts, errors) if state == DRAWN and error > 0]
+    precision = precision_of(level, interval, with_error)
+    upper_limit = full_sum + sampled_sum + precision
+    verdict = verdict_of(full_sum + sampled_sum, upper_limit, te)
+    return Judgement(full_sum, sampled_sum, m, precision, upper_limit, verdict)
+
+
+@operation
+def judge(level, ledger, n, first_point, errors, te):
+    check_level(level)
+    total = ledger_total(ledger, errors)
+    check_te(te, total)
+    interval, states, amounts = amounts_of_lines(ledger, n, first_point, errors)
+    return judgement_of(level, interval, states, amounts, errors, te)
+
+
+# ---- The working file ----
+
+BODY = {ord("P"): 17, ord("W"): 8, ord("L"): 8, ord("E"): 12, ord("Z"): 12}
+ORDER = b"PWLEZ"
+
+
+def number_at(file, offset, width):
+    return int.from_bytes(file[offset : offset + width], "little")
+
+
+class Reading:
+    """What the records so far hold, and the rule of each kind: each rule answers whether the record keeps it."""
+
+    def __init__(self):
+        self.plan, self.words, self.values, self.errors = None, [], [], {}
+        self.values_sum, self.last_kind, self.last_error_line = 0, None, -1
+
+    def comes_in_order(self, kind):
+        if self.last_kind is None:
+            return kind == ord("P")
+        return kind != ord("P") and ORDER.index(kind) >= ORDER.index(self.last_kind)
+
+    def take_P(self, body):
+        self.plan = body[0], number_at(body, 1, 8), number_at(body, 9, 8)
+        return True
+
+    def take_W(self, body):
+        self.words.append(number_at(body, 0, 8))
+        return len(self.words) <= MOST_FILE_WORDS
+
+    def take_L(self, body):
+        value = number_at(body, 0, 8)
+        self.values.append(value)
+        self.values_sum += value
+        return len(self.values) <= MOST_FILE_LINES and self.values_sum <= MOST_SUM
+
+    def take_E(self, body):
+        line, error = number_at(body, 0, 4), number_at(body, 4, 8)
+        rises = line > self.last_error_line
+        self.errors[line], self.last_error_line = error, line
+        return rises and line < len(self.values) and error > 0
+
+    def take_Z(self, body):
+        return (number_at(body, 0, 4), number_at(body, 4, 8)) == (len(self.values), self.values_sum)
+
+    def take(self, kind, body):
+        """Whether this record keeps its rules."""
+        if kind not in BODY or not self.comes_in_order(kind) or len(body) < BODY[kind]:
+            return False
+        self.last_kind = kind
+        return getattr(self, "take_" + chr(kind))(body)
+
+
+def decode(file):
+    """The content of a legal file, record by record."""
+    reading, offset = Reading(), 0
+    while reading.last_kind != ord("Z"):
+        if offset >= len(file):
+            raise Refused(17, len(file))
+        kind = file[offset]
+        body = file[offset + 1 : offset + 1 + BODY.get(kind, 0)]
+        if not reading.take(kind, body):
+            raise Refused(17, offset)
+        offset += 1 + len(body)
+    if offset < len(file):
+        raise Refused(17, offset)
+    errors = [reading.errors.get(line, 0) for line in range(len(reading.values))]
+    return reading.plan, reading.words, reading.values, errors
+
+
+@operation
+def read(file, words, values, errors):
+    for room, needed in (words, MOST_FILE_WORDS), (values, MOST_FILE_LINES), (errors, MOST_FILE_LINES):
+        if len(room) < needed:
+            raise Refused(18, needed)
+    (level, te, ae), read_words, read_values, read_errors = decode(file)
+    words[: len(read_words)] = read_words
+    values[: len(read_values)] = read_values
+    errors[: len(read_errors)] = read_errors
+    return Content(level, te, ae, len(read_words), len(read_values))
+
+
+def record(kind, *fields):
+    """A kind byte and its body; a field is a number and its width in bytes."""
+    return kind + b"".join(number.to_bytes(width, "little") for number, width in fields)
+
+
+def encode(level, te, ae, words, values, errors):
+    """The one file of a content."""
+    file = record(b"P", (level, 1), (te, 8), (ae, 8))
+    file += b"".join(record(b"W", (word, 8)) for word in words)
+    file += b"".join(record(b"L", (value, 8)) for value in values)
+    file += b"".join(record(b"E", (line, 4), (error, 8)) for line, error in enumerate(errors) if error > 0)
+    return file + record(b"Z", (len(values), 4), (sum(values), 8))
+
+
+@operation
+def write(level, te, ae, words, values, errors, out):
+    if len(errors) != len(values):
+        raise Refused(13, 0)
+    if len(words) > MOST_FILE_WORDS or len(values) > MOST_FILE_LINES or sum(values) > MOST_SUM:
+        raise Refused(19, 0)
+    file = encode(level, te, ae, words, values, errors)
+    if len(file) > len(out):
+        raise Refused(18, len(file))
+    out[: len(file)] = file
+    return Length(len(file))
+
+
+# ---- The desk program ----
+
+
+def accepted(answer):
+    """The answer of a step that the desk goes on from."""
+    if isinstance(answer, Refusal):
+        raise Refused(*answer)
+    return answer
+
+
+def text_line(word, *figures):
+    return " ".join([word, *map(str, figures)]) + "\n"
+
+
+def desk_lines(file):
+    """The lines of the desk's text, each step's refusals in order, 12 in the place of 11."""
+    (level, te, ae), words, ledger, errors = decode(file)
+    check_level(level)
+    total = ledger_total(ledger, errors)
+    n = draws_needed(level, total, te, ae)
+    figures, _ = finished_split(ledger, n)
+    first_point, words_read = accepted(start(figures.interval, words))
+    interval, states, amounts = amounts_of_lines(ledger, n, first_point, errors)
+    full_sum, sampled_sum, m, precision, upper_limit, verdict = judgement_of(
+        level, interval, states, amounts, errors, te
+    )
+    yield text_line("plan", level, total, te, ae, n)
+    yield text_line("split", *figures)
+    yield text_line("start", first_point, words_read)
+    for line, state in enumerate(states):
+        if state != NOT_DRAWN:
+            yield text_line("full" if state == FULL else "drawn", line, ledger[line], errors[line], amounts[line])
+    yield text_line("project", full_sum, sampled_sum, m)
+    yield text_line("judge", precision, upper_limit, verdict)
+
+
+def desk(file):
+    """The whole output for the bytes of standard input."""
+    try:
+        return "".join(desk_lines(file)).encode()
+    except Refused as refused:
+        return text_line("refused", *refused.refusal).encode()
+
+
+def main(arguments):
+    if arguments == ["--self-test"]:
+        import self_test  # it stands on this file
+
+        self_test.run()
+    elif arguments == ["--desk"]:
+        sys.stdout.buffer.write(desk(sys.stdin.buffer.read()))
+    elif arguments == ["--factors"]:
+        for level in EF:
+            print(level, *(RF(level, k) for k in range(64)))
+    else:
+        sys.exit(__doc__)
+
+
+if __name__ == "__main__":
+    main(sys.argv[1:])

@@ -1,0 +1,146 @@
+#!/usr/bin/env python3
+"""The samples: working files as text, and what the desk program says to each.
+
+    python3 tools/samples.py write           makes samples/NAME.out for every sample, by the reference
+    python3 tools/samples.py check           compares the stored ones, and the figures told in large-grants.txt
+    python3 tools/samples.py pack FILE       writes the working file of a sample to standard output
+    python3 tools/samples.py run COMMAND ..  runs a desk program on every sample and compares
+
+The notation has one record a line: P level TE AE, W word, L book value, E line error. Blank lines and lines that open
+with # are passed over. Z is made. A sample NAME.hex holds the bytes themselves, for files that no text can give.
+"""
+
+import pathlib
+import subprocess
+import sys
+
+import reference
+
+SAMPLES = pathlib.Path(__file__).resolve().parent.parent / "samples"
+WIDTHS = {"P": (1, 8, 8), "W": (8,), "L": (8,), "E": (4, 8)}
+
+
+def records_of(text):
+    """Kind and numbers of each record of the notation."""
+    for number, line in enumerate(text.splitlines(), start=1):
+        words = line.split()
+        if not words or words[0].startswith("#"):
+            continue
+        kind, numbers = words[0], [int(word) for word in words[1:]]
+        if kind not in WIDTHS or len(numbers) != len(WIDTHS[kind]):
+            sys.exit(f"line {number}: no record: {line}")
+        yield kind, numbers
+
+
+def pack(text):
+    """The working file of a text: the records in the order of the text, then Z."""
+    file, values = b"", []
+    for kind, numbers in records_of(text):
+        file += reference.record(kind.encode(), *zip(numbers, WIDTHS[kind]))
+        values += numbers if kind == "L" else []
+    return file + reference.record(b"Z", (len(values), 4), (sum(values), 8))
+
+
+def bytes_of_hex(text):
+    lines = [line for line in text.splitlines() if not line.startswith("#")]
+    return bytes.fromhex("".join(lines))
+
+
+def file_of(path):
+    text = path.read_text()
+    return bytes_of_hex(text) if path.suffix == ".hex" else pack(text)
+
+
+def every_sample():
+    return sorted([*SAMPLES.glob("*.txt"), *SAMPLES.glob("*.hex")])
+
+
+# ---- What one round of the split would say ----
+
+
+def one_round(ledger, n):
+    """The split stopped after its first round: its full lines, the others, and the interval that the others get."""
+    first_interval = sum(ledger) // n
+    full = [line for line, value in enumerate(ledger) if value > first_interval]
+    others = [line for line, value in enumerate(ledger) if value <= first_interval]
+    interval = sum(ledger[line] for line in others) // (n - len(full))
+    return full, others, interval
+
+
+def figures_line(name, interval, start, projected_error, precision, limit, verdict):
+    figures = f"interval {interval}, start {start}, projected {projected_error}, precision {precision}"
+    return f"# {name}: {figures}, upper limit {limit}: {verdict}"
+
+
+def figures_of_one_round(level, te, n, words, ledger, errors):
+    """Every later step as it is, on the figures of one round."""
+    full, others, interval = one_round(ledger, n)
+    start = reference.start(interval, words).start
+    drawn = reference.drawn_lines(ledger, others, interval, start)
+    amounts = [reference.divide_up(errors[line] * interval, ledger[line]) for line in drawn if errors[line] > 0]
+    projected_error = sum(errors[line] for line in full) + sum(amounts)
+    precision = reference.precision_of(level, interval, amounts)
+    limit = projected_error + precision
+    verdict = reference.verdict_of(projected_error, limit, te)
+    return figures_line("one round", interval, start, projected_error, precision, limit, verdict)
+
+
+def figures_of_finished(level, te, n, words, ledger, errors):
+    interval = reference.split_intervals(ledger, n)[-1]
+    start = reference.start(interval, words).start
+    found = reference.judge(level, ledger, n, start, errors, te)
+    projected_error = found.full_sum + found.sampled_sum
+    return figures_line("finished", interval, start, projected_error, found.precision, found.upper_limit, found.verdict)
+
+
+def told_figures(file):
+    """The two lines that a reader of large-grants.txt is told."""
+    (level, te, ae), words, ledger, errors = reference.decode(file)
+    n = reference.size(level, sum(ledger), te, ae).draws
+    inputs = level, te, n, words, ledger, errors
+    return figures_of_one_round(*inputs), figures_of_finished(*inputs)
+
+
+# ---- Writing, checking, running ----
+
+
+def write():
+    for path in every_sample():
+        path.with_suffix(".out").write_bytes(reference.desk(file_of(path)))
+
+
+def check():
+    for path in every_sample():
+        out = path.with_suffix(".out")
+        if not out.exists() or out.read_bytes() != reference.desk(file_of(path)):
+            sys.exit(f"samples/{out.name} is not what the reference gives")
+    told = (SAMPLES / "large-grants.txt").read_text().splitlines()
+    for line in told_figures(file_of(SAMPLES / "large-grants.txt")):
+        if line not in told:
+            sys.exit(f"samples/large-grants.txt does not tell: {line}")
+
+
+def run(command):
+    for path in every_sample():
+        found = subprocess.run(command, input=file_of(path), stdout=subprocess.PIPE).stdout
+        if found != path.with_suffix(".out").read_bytes():
+            sys.exit(f"samples/{path.name}: found\n{found.decode(errors='replace')}")
+
+
+def main(arguments):
+    if arguments == ["write"]:
+        write()
+    elif arguments == ["check"]:
+        check()
+    elif arguments[:1] == ["pack"] and len(arguments) == 2:
+        sys.stdout.buffer.write(file_of(pathlib.Path(arguments[1])))
+        return
+    elif arguments[:1] == ["run"] and len(arguments) > 1:
+        run(arguments[1:])
+    else:
+        sys.exit(__doc__)
+    print(f"{len(every_sample())} samples")
+
+
+if __name__ == "__main__":
+    main(sys.argv[1:])

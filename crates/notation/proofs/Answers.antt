@@ -7,6 +7,7 @@ use borrow.Author.Tests.{le-ltb, lt-ltb}
 use lib.ListN.{length}
 use Rattle.terms.specs.Outcome.{Outcome, accepted, refused, after, left}
 use Rattle.terms.proofs.Outcomes.{never, after-accepted}
+use Rattle.notation.specs.Limits.{mostWords, mostFileLines}
 use Rattle.notation.specs.Contents.{wrongNumber, Content, textOf}
 use Rattle.notation.specs.Parse.{parseSays, counted, parseOf, over, Rooms, Passed, ParsePost}
 use Rattle.notation.specs.declared.Wrong.the-variants.{NoRoom}
@@ -25,15 +26,15 @@ module _ (text w v e : List ℕ) where
         errors = sym (ap (left (λ c. over (c .errors) e) e) p);
       }
 
-  pub no-words : length w < 64 → ParsePost text w v e (Faulty (record { line = 0; wrong = NoRoom })) w v e
+  pub no-words : length w < mostWords → ParsePost text w v e (Faulty (record { line = 0; wrong = NoRoom })) w v e
   unfolding parseOf
   no-words h = unroomed (simp (lt-ltb _ _ h))
 
-  pub no-values : 64 ≤ length w → length v < 2048 → ParsePost text w v e (Faulty (record { line = 0; wrong = NoRoom })) w v e
+  pub no-values : mostWords ≤ length w → length v < mostFileLines → ParsePost text w v e (Faulty (record { line = 0; wrong = NoRoom })) w v e
   unfolding parseOf
   no-values g h = unroomed (simp (le-ltb _ _ g, lt-ltb _ _ h))
 
-  pub no-errors : 64 ≤ length w → 2048 ≤ length v → length e < 2048 → ParsePost text w v e (Faulty (record { line = 0; wrong = NoRoom })) w v e
+  pub no-errors : mostWords ≤ length w → mostFileLines ≤ length v → length e < mostFileLines → ParsePost text w v e (Faulty (record { line = 0; wrong = NoRoom })) w v e
   unfolding parseOf
   no-errors g k h = unroomed (simp (le-ltb _ _ g, le-ltb _ _ k, lt-ltb _ _ h))
 

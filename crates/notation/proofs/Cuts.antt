@@ -90,6 +90,7 @@ cut (b ∷ l) o = go (opens l) refl (cut l)
   where
     e : blank b ≡ false
     e = first-byte b l o
+
     go : (t : Bool) → opens l ≡ t → (opens l ≡ true → fieldsOf l ≡ take (runOf Field l) l ∷ fieldsOf (drop (runOf Field l) l))
         → fieldsOf (b ∷ l) ≡ take (runOf Field (b ∷ l)) (b ∷ l) ∷ fieldsOf (drop (runOf Field (b ∷ l)) (b ∷ l))
     go true p again =

@@ -7,3 +7,5 @@ pub mod Growing
 pub mod Storing
 pub mod Passing
 pub mod Answers
+pub mod Laws
+pub mod Worked

@@ -13,6 +13,7 @@ use Rattle.terms.specs.Outcome.{Outcome, accepted, refused, after}
 use Rattle.terms.specs.Numbers.{pick}
 use Rattle.terms.proofs.Tests.{by-test, le-or-lt}
 use Rattle.terms.proofs.Outcomes.{never}
+use Rattle.notation.specs.Limits.{mostFileLines}
 use Rattle.notation.specs.Text.{onto, linesOf, goesOn}
 use Rattle.notation.specs.Records.{recordIn}
 use Rattle.notation.specs.Steps.{runOf, Reached}
@@ -118,7 +119,7 @@ ended-as c line = go (eqb (c .plans) 0)
     go true = refl
     go false = refl
 
-its-content : (c : Content) (line : ℕ) (d : Content) → pick (eqb (c .plans) 0) (refused (wrongNumber NoPlan) line) (accepted c) ≡ accepted d → c ≡ d
+pub its-content : (c : Content) (line : ℕ) (d : Content) → pick (eqb (c .plans) 0) (refused (wrongNumber NoPlan) line) (accepted c) ≡ accepted d → c ≡ d
 its-content c line d = by-test (λ (o : Outcome Content). o ≡ accepted d → c ≡ d) (eqb (c .plans) 0) (λ p f. never f) (λ p f. cc)
 
 module _ {text : List ℕ} {storing : Bool} {w v e : List ℕ} {at line : ℕ} {s : State} {w′ v′ e′ : List ℕ} (st : Stands text storing w v e at line s w′ v′ e′) where
@@ -133,18 +134,22 @@ module _ {text : List ℕ} {storing : Bool} {w v e : List ℕ} {at line : ℕ} {
         errors = omega (arith, st .rooms .errors, sizes .errors);
       }
 
-  pub few-lines : s .lines ≤ 2048
+  pub few-lines : s .lines ≤ mostFileLines
   few-lines = omega (arith, ap (λ (t : State). t .lines) (st .state), st .legal .lines)
 
   quiet : storing ≡ false → (w′ ≡ w) × (v′ ≡ v) × (e′ ≡ e)
-  quiet f =
-      (picked storing (over (st .read .words) w) w w′ (st .held .words) .0 f, picked storing (over (st .read .values) v) v v′ (st .held .values) .0 f,
-      picked storing (over (st .read .errors) e) e e′ (st .held .errors) .0 f)
+  quiet f = (
+    picked storing (over (st .read .words) w) w w′ (st .held .words) .0 f,
+    picked storing (over (st .read .values) v) v v′ (st .held .values) .0 f,
+    picked storing (over (st .read .errors) e) e e′ (st .held .errors) .0 f,
+  )
 
   loud : storing ≡ true → (w′ ≡ over (st .read .words) w) × (v′ ≡ over (st .read .values) v) × (e′ ≡ over (st .read .errors) e)
-  loud t =
-      (picked storing (over (st .read .words) w) w w′ (st .held .words) .1 t, picked storing (over (st .read .values) v) v v′ (st .held .values) .1 t,
-      picked storing (over (st .read .errors) e) e e′ (st .held .errors) .1 t)
+  loud t = (
+    picked storing (over (st .read .words) w) w w′ (st .held .words) .1 t,
+    picked storing (over (st .read .values) v) v v′ (st .held .values) .1 t,
+    picked storing (over (st .read .errors) e) e e′ (st .held .errors) .1 t,
+  )
 
   -- at the end of the text
   whole : length text ≤ at → textOf text ≡ pick (eqb (st .read .plans) 0) (refused (wrongNumber NoPlan) line) (accepted (st .read))
@@ -173,7 +178,7 @@ module _ {text : List ℕ} {storing : Bool} {w v e : List ℕ} {at line : ℕ} {
     pub faulty : {wrong : Wrong} → j ≡ Breaks wrong → Passed text storing w v e (Faulty (record { line = line; wrong = wrong })) w′ v′ e′
     faulty {wrong} b =
         let bad : textOf text ≡ refused (wrongNumber wrong) line =
-            here ∙ ap (λ (k : Judged). goOn k line (readLines (suc line) (grow (st .read) found) (linesOf (drop (min (suc end) (length text)) text)))) b in
+        here ∙ ap (λ (k : Judged). goOn k line (readLines (suc line) (grow (st .read) found) (linesOf (drop (min (suc end) (length text)) text)))) b in
         record { answer = sym (ap (after counted) bad); quiet = quiet; kept = λ c t f. never (sym bad ∙ f) }
 
     pub less : {to : ℕ} → to ≡ min (suc end) (length text) → length text - to < length text - at
@@ -192,16 +197,16 @@ module _ {text : List ℕ} {storing : Bool} {w v e : List ℕ} {at line : ℕ} {
           let legal = st .legal in
           let law = rule (stateOf (st .read)) found next fits in
           let good : textOf text ≡ readLines (suc line) (grow (st .read) found) (linesOf (drop (min (suc end) (length text)) text)) =
-              here ∙ ap (λ (k : Judged). goOn k line (readLines (suc line) (grow (st .read) found) (linesOf (drop (min (suc end) (length text)) text)))) b in
+          here ∙ ap (λ (k : Judged). goOn k line (readLines (suc line) (grow (st .read) found) (linesOf (drop (min (suc end) (length text)) text)))) b in
           record {
             read = grow (st .read) found;
             state = state-grown (st .read) found next fits;
             same = ap (λ (n : ℕ). readLines n (grow (st .read) found) (linesOf (drop to text))) (add-one line)
-              ∙ ap (λ (n : ℕ). readLines (suc line) (grow (st .read) found) (linesOf (drop n text))) t ∙ sym good;
+                ∙ ap (λ (n : ℕ). readLines (suc line) (grow (st .read) found) (linesOf (drop n text))) t ∙ sym good;
             within = omega (arith, t);
             passed = omega (arith, t, st .passed, run .after, run .within);
             legal = legal-grown (st .read) found law legal;
             rooms = st .rooms;
             held = held-more storing (st .read) w v e w′ v′ e′ w″ v″ e″ found legal (st .rooms) law (st .held)
-              (subst (λ (q : State). Kept storing q found w′ v′ e′ w″ v″ e″) (sym (st .state)) kept);
+                (subst (λ (q : State). Kept storing q found w′ v′ e′ w″ v″ e″) (sym (st .state)) kept);
           }

@@ -6,6 +6,7 @@ use lib.Dec.{eqb, ltb}
 use lib.ListN.{length, set}
 use Rattle.terms.specs.Outcome.{Outcome, accepted, refused}
 use Rattle.terms.specs.Numbers.{pick, sum}
+use Rattle.notation.specs.Limits.{mostWords, mostFileLines}
 use Rattle.notation.specs.Text.{linesOf}
 use Rattle.notation.specs.Records.{recordIn}
 use Rattle.notation.specs.declared.Wrong.{Wrong}
@@ -66,14 +67,14 @@ unfoldable pub wordJudged : State → Judged
 wordJudged s =
     pick (eqb (s .plans) 0) (Breaks NoPlan)
     (pick (ltb 0 (s .lines)) (Breaks OutOfOrder)
-    (pick (ltb (s .words) 64) (Fits (record { plans = s .plans; level = s .level; te = s .te; ae = s .ae; words = s .words + 1; lines = s .lines; sum = s .sum; next = s .next })) (Breaks TooManyWords)))
+    (pick (ltb (s .words) mostWords) (Fits (record { plans = s .plans; level = s .level; te = s .te; ae = s .ae; words = s .words + 1; lines = s .lines; sum = s .sum; next = s .next })) (Breaks TooManyWords)))
 
 -- L before any E, at most 2,048, their sum within 64 bits
 unfoldable pub valueJudged : State → ℕ → Judged
 valueJudged s value =
     pick (eqb (s .plans) 0) (Breaks NoPlan)
     (pick (ltb 0 (s .next)) (Breaks OutOfOrder)
-    (pick (ltb (s .lines) 2048)
+    (pick (ltb (s .lines) mostFileLines)
     (pick (ltb (s .sum + value) (2 ^ 64)) (Fits (record { plans = s .plans; level = s .level; te = s .te; ae = s .ae; words = s .words; lines = s .lines + 1; sum = s .sum + value; next = s .next })) (Breaks TotalTooLarge))
     (Breaks TooManyLines)))
 

@@ -7,6 +7,7 @@ use lib.Dec.{eqb, ltb}
 use lib.ListN.{length, drop, set}
 use Rattle.terms.specs.Outcome.{Outcome, accepted, refused, after, left}
 use Rattle.terms.specs.Numbers.{pick}
+use Rattle.notation.specs.Limits.{mostWords, mostFileLines}
 use Rattle.notation.specs.Contents.{wrongNumber, Content, stateOf, textOf}
 use Rattle.notation.specs.declared.Wrong.the-variants.{NoPlan, NoRoom}
 use Rattle.notation.specs.declared.Record.{Record}
@@ -32,8 +33,8 @@ counted c = accepted (countsOf (stateOf c))
 unfoldable pub parseOf : List ℕ → ℕ → ℕ → ℕ → Outcome Content
 unfolding textOf
 parseOf text words values errors =
-    pick (ltb words 64) (refused (wrongNumber NoRoom) 0)
-    (pick (ltb values 2048) (refused (wrongNumber NoRoom) 0) (pick (ltb errors 2048) (refused (wrongNumber NoRoom) 0) (textOf text)))
+    pick (ltb words mostWords) (refused (wrongNumber NoRoom) 0)
+    (pick (ltb values mostFileLines) (refused (wrongNumber NoRoom) 0) (pick (ltb errors mostFileLines) (refused (wrongNumber NoRoom) 0) (textOf text)))
 
 -- a buffer with a list at its start; the entries past it stay
 abbrev pub over : List ℕ → List ℕ → List ℕ
@@ -48,16 +49,16 @@ pub record ParsePost (text w v e : List ℕ) (r : ParseAnswer) (w′ v′ e′ :
 
 -- The parts of the code.
 pub record Rooms (w v e : List ℕ) : Type 0 where
-  pub words : 64 ≤ length w
-  pub values : 2048 ≤ length v
-  pub errors : 2048 ≤ length e
+  pub words : mostWords ≤ length w
+  pub values : mostFileLines ≤ length v
+  pub errors : mostFileLines ≤ length e
 
 -- what a record that is taken keeps to
 abbrev pub Rule : State → Record → Type 0
 Rule s Nothing = Unit
-Rule s (Plan level te ae) = Unit
-Rule s (Word word) = s .words < 64
-Rule s (Value value) = (s .lines < 2048) × (s .sum + value < 2 ^ 64)
+Rule s (Plan level te ae) = level ≤ 255
+Rule s (Word word) = s .words < mostWords
+Rule s (Value value) = (s .lines < mostFileLines) × (s .sum + value < 2 ^ 64)
 Rule s (Error line error) = line < s .lines
 Rule s (Unreadable wrong) = Unit
 

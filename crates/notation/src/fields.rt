@@ -5,10 +5,10 @@ ghost use lib.ListN.{length};
 ghost use Rattle.notation.specs.Text.{blank, goesOn};
 ghost use Rattle.notation.specs.Records.{numberOf};
 ghost use Rattle.notation.specs.Steps.{Reached, NextNumber};
+use crate::NextAnswer;
+use crate::NumberAnswer;
 use crate::Run;
 use crate::Wrong;
-use crate::NumberAnswer;
-use crate::NextAnswer;
 
 fn is_blank(byte: u8) -> bool
     ensures { λ r. ⌜ r ≡ blank byte ⌝ }

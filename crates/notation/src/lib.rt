@@ -2,10 +2,18 @@
 mod fields; // fields.rt: the bytes of a line, its fields and numbers
 mod records; // records.rt: the record of a line
 mod rules; // rules.rt: which record may follow which
+pub mod faults; // faults.rt: a fault in words
+
 ghost use mathlib.Core.Path.{_≡_};
 ghost use Prim.Native.Nat.{suc, _≤_, min};
 ghost use lib.ListN.{length};
+ghost use Rattle.notation.specs.Limits.{mostFileLines};
 ghost use Rattle.notation.specs.Parse.{parseSays, Rooms, Rule, Kept, endOf, Passed, ParsePost};
+
+// The largest counts of a working file. The definitions name the same numbers in specs/Limits.antt.
+pub const MOST_WORDS: usize = 64;
+
+pub const MOST_FILE_LINES: usize = 2_048;
 
 // What is wrong with a line; the last is wrong with the call.
 pub enum Wrong {
@@ -94,8 +102,15 @@ pub enum Judged {
 }
 
 // A record that the rules allow goes to its place, where the pass stores.
-fn keep(storing: bool, s: State, found: Record, words: &mut [u64], values: &mut [u64], errors: &mut [u64])
-    requires { ⌜ Rooms (now words) (now values) (now errors) × (Rule s found × (s .lines ≤ 2048)) ⌝ }
+fn keep(
+    storing: bool,
+    s: State,
+    found: Record,
+    words: &mut [u64],
+    values: &mut [u64],
+    errors: &mut [u64],
+)
+    requires { ⌜ Rooms (now words) (now values) (now errors) × (Rule s found × (s .lines ≤ mostFileLines)) ⌝ }
     ensures { λ r. ⌜ Kept storing s found (now (words .entry)) (now (values .entry)) (now (errors .entry)) (now (words .exit)) (now (values .exit)) (now (errors .exit)) ⌝ }
 {
     if !storing {
@@ -134,25 +149,52 @@ fn answer_at_end(s: State, line: usize) -> ParseAnswer
     ensures { λ r. ⌜ parseSays r ≡ endOf s line ⌝ }
 {
     if s.plans == 0 {
-        return ParseAnswer::Faulty(Fault { line: line, wrong: Wrong::NoPlan });
+        return ParseAnswer::Faulty(Fault {
+            line: line,
+            wrong: Wrong::NoPlan,
+        });
     }
-    ParseAnswer::Parsed(Contents { level: s.level, te: s.te, ae: s.ae, words: s.words, lines: s.lines })
+    ParseAnswer::Parsed(Contents {
+        level: s.level,
+        te: s.te,
+        ae: s.ae,
+        words: s.words,
+        lines: s.lines,
+    })
 }
 
 // One pass over the text, line by line; the buffers change only where it stores.
-fn pass(text: &[u8], storing: bool, words: &mut [u64], values: &mut [u64], errors: &mut [u64]) -> ParseAnswer
+fn pass(
+    text: &[u8],
+    storing: bool,
+    words: &mut [u64],
+    values: &mut [u64],
+    errors: &mut [u64],
+) -> ParseAnswer
     requires { ⌜ Rooms (now words) (now values) (now errors) ⌝ }
     ensures { λ r. ⌜ Passed (now (text .entry)) storing (now (words .entry)) (now (values .entry)) (now (errors .entry)) r (now (words .exit)) (now (values .exit)) (now (errors .exit)) ⌝ }
 {
     let mut at: usize = 0;
     let mut line: usize = 1;
-    let mut state = State { plans: 0, level: 0, te: 0, ae: 0, words: 0, lines: 0, sum: 0, next: 0 };
+    let mut state = State {
+        plans: 0,
+        level: 0,
+        te: 0,
+        ae: 0,
+        words: 0,
+        lines: 0,
+        sum: 0,
+        next: 0,
+    };
     while at < text.len() {
         let end = fields::reach(text, at, Run::Line);
         let found = records::record_of(&text[at..end]);
         match rules::judge(state, found) {
             Judged::Breaks(wrong) => {
-                return ParseAnswer::Faulty(Fault { line: line, wrong: wrong });
+                return ParseAnswer::Faulty(Fault {
+                    line: line,
+                    wrong: wrong,
+                });
             }
             Judged::Fits(next) => {
                 keep(storing, state, found, words, values, errors);
@@ -169,14 +211,23 @@ fn pass(text: &[u8], storing: bool, words: &mut [u64], values: &mut [u64], error
 pub fn parse(text: &[u8], words: &mut [u64], values: &mut [u64], errors: &mut [u64]) -> ParseAnswer
     ensures { λ r. ⌜ ParsePost (now (text .entry)) (now (words .entry)) (now (values .entry)) (now (errors .entry)) r (now (words .exit)) (now (values .exit)) (now (errors .exit)) ⌝ }
 {
-    if words.len() < 64 {
-        return ParseAnswer::Faulty(Fault { line: 0, wrong: Wrong::NoRoom });
+    if words.len() < MOST_WORDS {
+        return ParseAnswer::Faulty(Fault {
+            line: 0,
+            wrong: Wrong::NoRoom,
+        });
     }
-    if values.len() < 2048 {
-        return ParseAnswer::Faulty(Fault { line: 0, wrong: Wrong::NoRoom });
+    if values.len() < MOST_FILE_LINES {
+        return ParseAnswer::Faulty(Fault {
+            line: 0,
+            wrong: Wrong::NoRoom,
+        });
     }
-    if errors.len() < 2048 {
-        return ParseAnswer::Faulty(Fault { line: 0, wrong: Wrong::NoRoom });
+    if errors.len() < MOST_FILE_LINES {
+        return ParseAnswer::Faulty(Fault {
+            line: 0,
+            wrong: Wrong::NoRoom,
+        });
     }
     match pass(text, false, words, values, errors) {
         ParseAnswer::Faulty(fault) => ParseAnswer::Faulty(fault),

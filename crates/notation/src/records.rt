@@ -4,12 +4,12 @@ ghost use Prim.Native.Nat.{_≤_};
 ghost use lib.ListN.{length};
 ghost use Rattle.notation.specs.Records.{ended as endedBy, planFrom, wordFrom, valueFrom, errorFrom, recordIn};
 ghost use Rattle.notation.specs.Steps.{fieldsAt};
-use crate::Run;
-use crate::Wrong;
 use crate::NextAnswer;
 use crate::Record;
-use crate::fields::reach;
+use crate::Run;
+use crate::Wrong;
 use crate::fields::next_number;
+use crate::fields::reach;
 
 // The record where nothing but blanks follows.
 fn ended(line: &[u8], at: usize, whole: Record) -> Record

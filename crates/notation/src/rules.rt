@@ -1,10 +1,12 @@
 // Which record may follow which.
 ghost use mathlib.Core.Path.{_≡_};
 ghost use Rattle.notation.specs.Contents.{planJudged, wordJudged, valueJudged, errorJudged, judged};
-use crate::Wrong;
+use crate::Judged;
+use crate::MOST_FILE_LINES;
+use crate::MOST_WORDS;
 use crate::Record;
 use crate::State;
-use crate::Judged;
+use crate::Wrong;
 
 fn judge_plan(s: State, level: u64, te: u64, ae: u64) -> Judged
     ensures { λ r. ⌜ r ≡ planJudged s level te ae ⌝ }
@@ -15,7 +17,16 @@ fn judge_plan(s: State, level: u64, te: u64, ae: u64) -> Judged
     if level > 255 {
         return Judged::Breaks(Wrong::LevelTooLarge);
     }
-    Judged::Fits(State { plans: 1, level: level as u8, te: te, ae: ae, words: s.words, lines: s.lines, sum: s.sum, next: s.next })
+    Judged::Fits(State {
+        plans: 1,
+        level: level as u8,
+        te: te,
+        ae: ae,
+        words: s.words,
+        lines: s.lines,
+        sum: s.sum,
+        next: s.next,
+    })
 }
 
 fn judge_word(s: State) -> Judged
@@ -27,11 +38,20 @@ fn judge_word(s: State) -> Judged
     if s.lines > 0 {
         return Judged::Breaks(Wrong::OutOfOrder);
     }
-    if s.words >= 64 {
+    if s.words >= MOST_WORDS {
         return Judged::Breaks(Wrong::TooManyWords);
     }
     let words = s.words + 1;
-    Judged::Fits(State { plans: s.plans, level: s.level, te: s.te, ae: s.ae, words: words, lines: s.lines, sum: s.sum, next: s.next })
+    Judged::Fits(State {
+        plans: s.plans,
+        level: s.level,
+        te: s.te,
+        ae: s.ae,
+        words: words,
+        lines: s.lines,
+        sum: s.sum,
+        next: s.next,
+    })
 }
 
 fn judge_value(s: State, value: u64) -> Judged
@@ -43,7 +63,7 @@ fn judge_value(s: State, value: u64) -> Judged
     if s.next > 0 {
         return Judged::Breaks(Wrong::OutOfOrder);
     }
-    if s.lines >= 2048 {
+    if s.lines >= MOST_FILE_LINES {
         return Judged::Breaks(Wrong::TooManyLines);
     }
     let room = 0xFFFF_FFFF_FFFF_FFFF - s.sum;
@@ -52,7 +72,16 @@ fn judge_value(s: State, value: u64) -> Judged
     }
     let lines = s.lines + 1;
     let sum = s.sum + value;
-    Judged::Fits(State { plans: s.plans, level: s.level, te: s.te, ae: s.ae, words: s.words, lines: lines, sum: sum, next: s.next })
+    Judged::Fits(State {
+        plans: s.plans,
+        level: s.level,
+        te: s.te,
+        ae: s.ae,
+        words: s.words,
+        lines: lines,
+        sum: sum,
+        next: s.next,
+    })
 }
 
 fn judge_error(s: State, line: u64, error: u64) -> Judged
@@ -72,7 +101,16 @@ fn judge_error(s: State, line: u64, error: u64) -> Judged
         return Judged::Breaks(Wrong::ErrorZero);
     }
     let next = at + 1;
-    Judged::Fits(State { plans: s.plans, level: s.level, te: s.te, ae: s.ae, words: s.words, lines: s.lines, sum: s.sum, next: next })
+    Judged::Fits(State {
+        plans: s.plans,
+        level: s.level,
+        te: s.te,
+        ae: s.ae,
+        words: s.words,
+        lines: s.lines,
+        sum: s.sum,
+        next: next,
+    })
 }
 
 // A record judged by those before it.

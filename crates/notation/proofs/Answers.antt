@@ -9,7 +9,8 @@ use Rattle.terms.specs.Outcome.{Outcome, accepted, refused, after, left}
 use Rattle.terms.proofs.Outcomes.{never, after-accepted}
 use Rattle.notation.specs.Limits.{mostWords, mostFileLines}
 use Rattle.notation.specs.Contents.{wrongNumber, Content, textOf}
-use Rattle.notation.specs.Parse.{parseSays, counted, parseOf, over, Rooms, Passed, ParsePost}
+use Rattle.notation.specs.Parse.{parseSays, counted, parseOf, over, ParsePost}
+use Rattle.notation.specs.Steps.{Rooms, Passed}
 use Rattle.notation.specs.declared.Wrong.the-variants.{NoRoom}
 use Rattle.notation.specs.declared.Contents.{Contents}
 use Rattle.notation.specs.declared.Fault.{Fault}

@@ -1,16 +1,16 @@
 -- A record that the rules take: what it keeps to, and that a content which grows by it stays legal. Assumes nothing.
-use mathlib.Core.Path.{_≡_, refl, sym, ap, _∙_}
+use mathlib.Core.Path.{_≡_, refl, _∙_}
 use mathlib.Core.List.{List, [], _∷_, _++_}
-use Prim.Native.Nat.{ℕ, suc, _+_, _^_, _≤_, _<_}
+use Prim.Native.Nat.{ℕ, _+_, _^_, _≤_, _<_}
 use native.Mathlib.Omega.{arith}
 use borrow.Author.Tests.{ltb-true, ltb-false}
 use lib.Dec.{eqb, ltb}
-use lib.ListN.{length, set, length-append, length-set}
+use lib.ListN.{length, length-append, length-set}
 use Rattle.terms.specs.Numbers.{sum}
 use Rattle.terms.proofs.Tests.{by-test}
 use Rattle.notation.specs.Limits.{mostWords, mostFileLines}
-use Rattle.notation.specs.Contents.{Content, empty, stateOf, planJudged, wordJudged, valueJudged, errorJudged, judged, grow}
-use Rattle.notation.specs.Parse.{Rule}
+use Rattle.notation.specs.Contents.{Content, empty, stateOf, withPlan, withWord, withValue, withError, planJudged, wordJudged, valueJudged, errorJudged, judged, grow}
+use Rattle.notation.specs.Steps.{Rule}
 use Rattle.notation.specs.declared.Wrong.{Wrong}
 use Rattle.notation.specs.declared.Record.{Record}
 use Rattle.notation.specs.declared.Record.the-variants.{Nothing, Plan, Word, Value, Error, Unreadable}
@@ -23,14 +23,14 @@ clash e = let z : _≡_ {A = ℕ} 0 1 = cc in absurd (omega arith)
 
 -- what holds where a record is taken, by the tests that it passed
 module _ (s t : State) (P : Type 0) where
-  plan-taken : (level te ae : ℕ) → (level ≤ 255 → record { plans = 1; level = level; te = te; ae = ae; words = s .words; lines = s .lines; sum = s .sum; next = s .next } ≡ t → P)
+  plan-taken : (level te ae : ℕ) → (level ≤ 255 → withPlan s level te ae ≡ t → P)
       → planJudged s level te ae ≡ Fits t → P
   unfolding planJudged
   plan-taken level te ae p =
       by-test (λ (o : Judged). o ≡ Fits t → P) (eqb (s .plans) 0)
       (λ a. by-test (λ (o : Judged). o ≡ Fits t → P) (ltb 255 level) (λ b e. clash e) (λ b e. p (ltb-false _ _ b) cc)) (λ a e. clash e)
 
-  word-taken : (s .words < mostWords → record { plans = s .plans; level = s .level; te = s .te; ae = s .ae; words = s .words + 1; lines = s .lines; sum = s .sum; next = s .next } ≡ t → P)
+  word-taken : (s .words < mostWords → withWord s ≡ t → P)
       → wordJudged s ≡ Fits t → P
   unfolding wordJudged
   word-taken p =
@@ -39,7 +39,7 @@ module _ (s t : State) (P : Type 0) where
       (λ b. by-test (λ (o : Judged). o ≡ Fits t → P) (ltb (s .words) mostWords) (λ d e. p (ltb-true _ _ d) cc) (λ d e. clash e)))
 
   value-taken : (value : ℕ) → (s .lines < mostFileLines → s .sum + value < 2 ^ 64
-      → record { plans = s .plans; level = s .level; te = s .te; ae = s .ae; words = s .words; lines = s .lines + 1; sum = s .sum + value; next = s .next } ≡ t → P)
+      → withValue s value ≡ t → P)
       → valueJudged s value ≡ Fits t → P
   unfolding valueJudged
   value-taken value p =
@@ -50,7 +50,7 @@ module _ (s t : State) (P : Type 0) where
       (λ d e. clash e)))
 
   error-taken : (line error : ℕ) → (line < s .lines
-      → record { plans = s .plans; level = s .level; te = s .te; ae = s .ae; words = s .words; lines = s .lines; sum = s .sum; next = line + 1 } ≡ t → P)
+      → withError s line ≡ t → P)
       → errorJudged s line error ≡ Fits t → P
   unfolding errorJudged
   error-taken line error p =

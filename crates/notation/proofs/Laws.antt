@@ -7,7 +7,7 @@ use lib.ListN.{length, length-append}
 use Rattle.pen.specs.Letters.{letters}
 use Rattle.pen.specs.Text.{decimal}
 use Rattle.pen.proofs.Lengths.{decimal-short}
-use Rattle.terms.specs.Outcome.{Outcome, accepted, refused}
+use Rattle.terms.specs.Outcome.{accepted}
 use Rattle.terms.proofs.Outcomes.{never}
 use Rattle.notation.specs.Text.{linesOf}
 use Rattle.notation.specs.Records.{recordIn}

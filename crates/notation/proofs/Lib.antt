@@ -8,4 +8,5 @@ pub mod Storing
 pub mod Passing
 pub mod Answers
 pub mod Laws
+pub mod ReadBack
 pub mod Worked

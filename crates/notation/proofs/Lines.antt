@@ -1,11 +1,10 @@
 -- The record of a line, field by field as the code reads it. Assumes nothing.
-use mathlib.Core.Path.{_≡_, refl, sym, ap, _∙_}
-use mathlib.Core.List.{List, [], _∷_}
+use mathlib.Core.Path.{_≡_, sym, ap, _∙_}
+use mathlib.Core.List.{List, _∷_}
 use Prim.Native.Nat.{ℕ, _-_, _≤_, _<_}
 use native.Mathlib.Omega.{arith}
 use lib.ListN.{length, getD, take, drop}
 use borrow.Author.Tests.{eq-eqb, ne-eqb}
-use Rattle.notation.specs.Text.{fieldsOf}
 use Rattle.notation.specs.Records.{numberOf, withNumber, next, ended, planFrom, wordFrom, valueFrom, errorFrom, recordWith, recordOf, recordIn}
 use Rattle.notation.specs.Steps.{Reached, fieldsAt, nextSays, nextPlace, NextNumber}
 use Rattle.notation.specs.declared.Wrong.{Wrong}
@@ -17,7 +16,7 @@ use Rattle.notation.specs.declared.NextAnswer.the-variants.{Next, NoNext
 use Rattle.notation.specs.declared.Run.the-variants.{Blanks, Field}
 use Rattle.notation.specs.declared.Record.{Record}
 use Rattle.notation.specs.declared.Record.the-variants.{Nothing, Plan, Word, Value, Error, Unreadable}
-use Rattle.notation.proofs.Cuts.{no-field, some-field-left, first-field, some-bytes, field-length, field-byte}
+use Rattle.notation.proofs.Cuts.{no-field, some-field-left, first-field, field-length, field-byte}
 
 -- the next number
 module _ {line : List ℕ} {at from : ℕ} (blanks : Reached Blanks line at from) where

@@ -1,9 +1,9 @@
 -- A pass over a text, line by line: what is known before each line, at a fault, and at the end. Assumes nothing.
 use mathlib.Core.Path.{_≡_, refl, sym, ap, subst, _∙_}
-use mathlib.Core.Bool.{Bool, true, false, not}
+use mathlib.Core.Bool.{Bool, true, false}
 use mathlib.Core.Logic.{⊎-elim}
 use mathlib.Core.List.{List, [], _∷_}
-use Prim.Native.Nat.{ℕ, zero, suc, _+_, _-_, _≤_, _<_, min}
+use Prim.Native.Nat.{ℕ, suc, _+_, _-_, _≤_, _<_, min}
 use native.Mathlib.Numerals.{add-one}
 use native.Mathlib.Omega.{arith}
 use lib.Dec.{eqb}
@@ -16,9 +16,9 @@ use Rattle.terms.proofs.Outcomes.{never}
 use Rattle.notation.specs.Limits.{mostFileLines}
 use Rattle.notation.specs.Text.{onto, linesOf, goesOn}
 use Rattle.notation.specs.Records.{recordIn}
-use Rattle.notation.specs.Steps.{runOf, Reached}
+use Rattle.notation.specs.Steps.{runOf, Reached, Rooms, Rule, Kept, endOf, Passed}
 use Rattle.notation.specs.Contents.{wrongNumber, Content, empty, stateOf, judged, grow, goOn, readLines, textOf}
-use Rattle.notation.specs.Parse.{parseSays, countsOf, counted, over, Rooms, Rule, Kept, endOf, Passed}
+use Rattle.notation.specs.Parse.{parseSays, countsOf, counted, over}
 use Rattle.notation.specs.declared.Run.the-variants.{Line}
 use Rattle.notation.specs.declared.Wrong.{Wrong}
 use Rattle.notation.specs.declared.Wrong.the-variants.{NoPlan}
@@ -26,9 +26,8 @@ use Rattle.notation.specs.declared.Record.{Record}
 use Rattle.notation.specs.declared.State.{State}
 use Rattle.notation.specs.declared.Judged.{Judged}
 use Rattle.notation.specs.declared.Judged.the-variants.{Fits, Breaks}
-use Rattle.notation.specs.declared.Contents.{Contents}
 use Rattle.notation.specs.declared.ParseAnswer.{ParseAnswer}
-use Rattle.notation.specs.declared.ParseAnswer.the-variants.{Parsed, Faulty}
+use Rattle.notation.specs.declared.ParseAnswer.the-variants.{Faulty}
 use Rattle.notation.proofs.Growing.{rule, state-grown, Legal, legal-empty, legal-grown}
 use Rattle.notation.proofs.Storing.{Held, held-none, held-more, Sizes, held-sizes}
 

@@ -8,7 +8,8 @@ use lib.ListN.{length, getD, drop, set, length-append, length-drop, length-set}
 use lib.Seq.{drop-cons, set-append-seam, set-append-left}
 use Rattle.terms.specs.Numbers.{pick}
 use Rattle.notation.specs.Contents.{Content, stateOf, grow}
-use Rattle.notation.specs.Parse.{over, Rooms, Rule, putWords, putValues, putErrors, Kept}
+use Rattle.notation.specs.Parse.{over}
+use Rattle.notation.specs.Steps.{Rooms, Rule, putWords, putValues, putErrors, Kept}
 use Rattle.notation.specs.declared.Wrong.{Wrong}
 use Rattle.notation.specs.declared.Record.{Record}
 use Rattle.notation.specs.declared.Record.the-variants.{Nothing, Plan, Word, Value, Error, Unreadable}

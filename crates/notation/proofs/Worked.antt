@@ -1,14 +1,13 @@
 -- The practice sheet's desk input in the notation, and one text for each fault, by computation. Assumes nothing.
-use Prim.Native.Nat.{ℕ}
 use Prim.Native.String.{String}
 use mathlib.Core.Path.{_≡_, refl}
-use mathlib.Core.List.{List, [], _∷_, map}
+use mathlib.Core.List.{[], _∷_, map}
 use Rattle.pen.specs.Letters.{letters}
 use Rattle.pen.specs.Text.{decimalIn, decimal}
-use Rattle.terms.specs.Outcome.{Outcome, accepted, refused}
+use Rattle.terms.specs.Outcome.{accepted, refused}
 use Rattle.notation.specs.Text.{linesOf, blank, opens, fieldsOf}
 use Rattle.notation.specs.Records.{numberFrom, numberOf, planFrom, wordFrom, valueFrom, errorFrom, recordWith, recordOf, recordIn}
-use Rattle.notation.specs.Contents.{Content, planJudged, wordJudged, valueJudged, errorJudged, judged, grow, readLines, textOf}
+use Rattle.notation.specs.Contents.{planJudged, wordJudged, valueJudged, errorJudged, judged, grow, readLines, textOf}
 use Rattle.notation.specs.Faults.{faultText}
 use Rattle.notation.specs.declared.Wrong.the-variants.{NotNumber}
 

@@ -55,11 +55,24 @@ abbrev pub stateOf : Content → State
 stateOf c =
     record { plans = c .plans; level = c .level; te = c .te; ae = c .ae; words = length (c .words); lines = length (c .values); sum = sum (c .values); next = c .next }
 
+-- the state with one record more
+abbrev pub withPlan : State → ℕ → ℕ → ℕ → State
+withPlan s level te ae = record { plans = 1; level = level; te = te; ae = ae; words = s .words; lines = s .lines; sum = s .sum; next = s .next }
+
+abbrev pub withWord : State → State
+withWord s = record { plans = s .plans; level = s .level; te = s .te; ae = s .ae; words = s .words + 1; lines = s .lines; sum = s .sum; next = s .next }
+
+abbrev pub withValue : State → ℕ → State
+withValue s value = record { plans = s .plans; level = s .level; te = s .te; ae = s .ae; words = s .words; lines = s .lines + 1; sum = s .sum + value; next = s .next }
+
+abbrev pub withError : State → ℕ → State
+withError s line = record { plans = s .plans; level = s .level; te = s .te; ae = s .ae; words = s .words; lines = s .lines; sum = s .sum; next = line + 1 }
+
 -- P once and first, with a level of one byte
 unfoldable pub planJudged : State → ℕ → ℕ → ℕ → Judged
 planJudged s level te ae =
     pick (eqb (s .plans) 0)
-    (pick (ltb 255 level) (Breaks LevelTooLarge) (Fits (record { plans = 1; level = level; te = te; ae = ae; words = s .words; lines = s .lines; sum = s .sum; next = s .next })))
+    (pick (ltb 255 level) (Breaks LevelTooLarge) (Fits (withPlan s level te ae)))
     (Breaks SecondPlan)
 
 -- W before any L, at most 64
@@ -67,7 +80,7 @@ unfoldable pub wordJudged : State → Judged
 wordJudged s =
     pick (eqb (s .plans) 0) (Breaks NoPlan)
     (pick (ltb 0 (s .lines)) (Breaks OutOfOrder)
-    (pick (ltb (s .words) mostWords) (Fits (record { plans = s .plans; level = s .level; te = s .te; ae = s .ae; words = s .words + 1; lines = s .lines; sum = s .sum; next = s .next })) (Breaks TooManyWords)))
+    (pick (ltb (s .words) mostWords) (Fits (withWord s)) (Breaks TooManyWords)))
 
 -- L before any E, at most 2,048, their sum within 64 bits
 unfoldable pub valueJudged : State → ℕ → Judged
@@ -75,7 +88,7 @@ valueJudged s value =
     pick (eqb (s .plans) 0) (Breaks NoPlan)
     (pick (ltb 0 (s .next)) (Breaks OutOfOrder)
     (pick (ltb (s .lines) mostFileLines)
-    (pick (ltb (s .sum + value) (2 ^ 64)) (Fits (record { plans = s .plans; level = s .level; te = s .te; ae = s .ae; words = s .words; lines = s .lines + 1; sum = s .sum + value; next = s .next })) (Breaks TotalTooLarge))
+    (pick (ltb (s .sum + value) (2 ^ 64)) (Fits (withValue s value)) (Breaks TotalTooLarge))
     (Breaks TooManyLines)))
 
 -- E on rising lines, each of an L; an error above 0
@@ -84,7 +97,7 @@ errorJudged s line error =
     pick (eqb (s .plans) 0) (Breaks NoPlan)
     (pick (ltb line (s .lines))
     (pick (ltb line (s .next)) (Breaks LineNotRising)
-    (pick (eqb error 0) (Breaks ErrorZero) (Fits (record { plans = s .plans; level = s .level; te = s .te; ae = s .ae; words = s .words; lines = s .lines; sum = s .sum; next = line + 1 }))))
+    (pick (eqb error 0) (Breaks ErrorZero) (Fits (withError s line))))
     (Breaks UnknownLine))
 
 unfoldable pub judged : State → Record → Judged

@@ -5,7 +5,6 @@ use lib.Dec.{eqb, ltb}
 use lib.ListN.{length, getD}
 use Rattle.terms.specs.Numbers.{pick}
 use Rattle.notation.specs.Text.{fieldsOf}
-use Rattle.notation.specs.declared.Wrong.{Wrong}
 use Rattle.notation.specs.declared.Wrong.the-variants.{UnknownKind, NumberMissing, NotNumber, NumberTooLarge, FieldTooMany}
 use Rattle.notation.specs.declared.NumberAnswer.{NumberAnswer}
 use Rattle.notation.specs.declared.NumberAnswer.the-variants.{Number, NoNumber}

@@ -1,5 +1,4 @@
 // A fault in words, as one line of text.
-ghost use mathlib.Core.Path.{_≡_};
 ghost use Rattle.pen.specs.Page.{Wrote, Printed};
 ghost use Rattle.notation.specs.Faults.{wrongWords, faultText};
 use crate::Fault;

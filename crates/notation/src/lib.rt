@@ -8,7 +8,8 @@ ghost use mathlib.Core.Path.{_≡_};
 ghost use Prim.Native.Nat.{suc, _≤_, min};
 ghost use lib.ListN.{length};
 ghost use Rattle.notation.specs.Limits.{mostFileLines};
-ghost use Rattle.notation.specs.Parse.{parseSays, Rooms, Rule, Kept, endOf, Passed, ParsePost};
+ghost use Rattle.notation.specs.Parse.{parseSays, ParsePost};
+ghost use Rattle.notation.specs.Steps.{Rooms, Rule, Kept, endOf, Passed};
 
 // The largest counts of a working file. The definitions name the same numbers in specs/Limits.antt.
 pub const MOST_WORDS: usize = 64;
@@ -56,25 +57,25 @@ pub enum ParseAnswer {
 }
 
 // What a run of bytes goes on over.
-pub enum Run {
+enum Run {
     Blanks,
     Field,
     Line,
 }
 
-pub enum NumberAnswer {
+enum NumberAnswer {
     Number(u64),
     NoNumber(Wrong),
 }
 
 // The next number of a line and the place after it.
-pub enum NextAnswer {
+enum NextAnswer {
     Next(u64, usize),
     NoNext(Wrong),
 }
 
 // What a line holds; a blank line and a comment hold nothing.
-pub enum Record {
+enum Record {
     Nothing,
     Plan(u64, u64, u64),
     Word(u64),
@@ -84,19 +85,19 @@ pub enum Record {
 }
 
 // What the rules ask of the records so far; `next` is the lowest line that an E may name.
-pub struct State {
-    pub plans: usize,
-    pub level: u8,
-    pub te: u64,
-    pub ae: u64,
-    pub words: usize,
-    pub lines: usize,
-    pub sum: u64,
-    pub next: usize,
+struct State {
+    plans: usize,
+    level: u8,
+    te: u64,
+    ae: u64,
+    words: usize,
+    lines: usize,
+    sum: u64,
+    next: usize,
 }
 
 // A record judged: the state with it, or what is wrong.
-pub enum Judged {
+enum Judged {
     Fits(State),
     Breaks(Wrong),
 }

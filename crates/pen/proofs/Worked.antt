@@ -1,7 +1,6 @@
 -- Texts of document 01, by computation. Assumes nothing.
-use Prim.Native.Nat.{ℕ}
 use mathlib.Core.Path.{_≡_, refl}
-use mathlib.Core.List.{List, [], _∷_, map}
+use mathlib.Core.List.{[], _∷_, map}
 use Rattle.pen.specs.Letters.{letters}
 use Rattle.pen.specs.Text.{decimalIn, decimal, line}
 

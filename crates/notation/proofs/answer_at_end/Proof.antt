@@ -1,7 +1,6 @@
 -- `notation::answer_at_end` meets its contract: the test that led to a `return` is the one of `endOf`. Assumes nothing.
-use borrow.Author.Needs.{needs}
 use borrow.Author.Tests.{eq-eqb, ne-eqb}
-use Rattle.notation.specs.Parse.{endOf}
+use Rattle.notation.specs.Steps.{endOf}
 use Rattle.notation.proofs.answer_at_end.Statement.{statement}
 use Rattle.notation.proofs.answer_at_end.Tie as tie
 

@@ -1,6 +1,5 @@
 -- `notation::parse` meets its contract: the rooms are tested, then one pass judges and a second stores. Assumes nothing.
 use borrow.Author.Needs.{needs}
-use Rattle.notation.specs.Parse.{Rooms}
 use Rattle.notation.proofs.Answers.{no-words, no-values, no-errors, found-faulty, found-whole}
 use Rattle.notation.proofs.parse.Statement.{statement}
 use Rattle.notation.proofs.parse.Tie as tie

@@ -1,7 +1,6 @@
 -- `notation::faults::print_fault` meets its contract: the page has room for every fault's line. Assumes nothing.
 use borrow.Author.Needs.{needs}
 use native.Mathlib.Omega.{arith}
-use Prim.Native.Nat.{_^_, _<_}
 use Rattle.pen.proofs.Writing.{printed}
 use Rattle.notation.proofs.Laws.{fault-short}
 use Rattle.notation.proofs.faults.print_fault.Statement.{statement}

@@ -1,6 +1,6 @@
 -- `notation::fields::goes_on` meets its contract: each arm is a case of `goesOn`. Assumes nothing.
 use borrow.Author.Needs.{needs}
-use mathlib.Core.Path.{_≡_, sym, ap, _∙_}
+use mathlib.Core.Path.{sym, ap, _∙_}
 use mathlib.Core.Bool.{not}
 use Rattle.notation.specs.Text.{goesOn}
 use Rattle.notation.proofs.fields.goes_on.Statement.{statement}

@@ -1,5 +1,4 @@
 -- `notation::fields::is_blank` meets its contract: the tests that led to a `return` are those of `blank`. Assumes nothing.
-use borrow.Author.Needs.{needs}
 use borrow.Author.Tests.{eq-eqb, ne-eqb}
 use Rattle.notation.specs.Text.{blank}
 use Rattle.notation.proofs.fields.is_blank.Statement.{statement}

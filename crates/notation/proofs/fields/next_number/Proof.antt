@@ -1,7 +1,6 @@
 -- `notation::fields::next_number` meets its contract: the blanks are passed, then the field. Assumes nothing.
 use borrow.Author.Needs.{needs}
 use native.Mathlib.Omega.{arith}
-use mathlib.Core.Path.{sym, _∙_}
 use Rattle.notation.proofs.Lines.{number-missing, number-wrong, number-read}
 use Rattle.notation.proofs.fields.next_number.Statement.{statement}
 use Rattle.notation.proofs.fields.next_number.Tie as tie

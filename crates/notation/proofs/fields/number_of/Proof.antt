@@ -3,10 +3,8 @@
 use borrow.Author.Needs.{needs}
 use Rattle.notation.proofs.Digits.{Counted, none-counted, too-low, too-high, too-large, one-digit, all-counted}
 use native.Mathlib.Omega.{arith}
-use mathlib.Core.Path.{_≡_, refl, sym, _∙_}
-use Prim.Native.Nat.{_≤_, _-_}
-use lib.ListN.{length, drop}
-use Rattle.notation.specs.Records.{numberFrom, numberOf}
+use Prim.Native.Nat.{_-_}
+use lib.ListN.{length}
 use Rattle.notation.proofs.fields.number_of.Statement.{statement}
 use Rattle.notation.proofs.fields.number_of.Tie as tie
 

@@ -1,6 +1,6 @@
 -- `notation::rules::judge` meets its contract: each arm is a case of `judged`. Assumes nothing.
 use borrow.Author.Needs.{needs}
-use mathlib.Core.Path.{_≡_, sym, ap, _∙_}
+use mathlib.Core.Path.{sym, ap, _∙_}
 use Rattle.notation.specs.Contents.{judged}
 use Rattle.notation.proofs.rules.judge.Statement.{statement}
 use Rattle.notation.proofs.rules.judge.Tie as tie

@@ -1,8 +1,6 @@
 -- `notation::rules::judge_plan` meets its contract: the tests that led to a `return` are those of `planJudged`. Assumes nothing.
 use borrow.Author.Needs.{needs}
 use borrow.Author.Tests.{le-ltb, lt-ltb, eq-eqb, ne-eqb}
-use native.Mathlib.Omega.{arith}
-use Prim.Native.Nat.{_+_, _^_, _≤_, _<_}
 use Rattle.notation.specs.Contents.{planJudged}
 use Rattle.notation.proofs.rules.judge_plan.Statement.{statement}
 use Rattle.notation.proofs.rules.judge_plan.Tie as tie

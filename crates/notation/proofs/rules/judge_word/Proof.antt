@@ -1,8 +1,6 @@
 -- `notation::rules::judge_word` meets its contract: the tests that led to a `return` are those of `wordJudged`. Assumes nothing.
 use borrow.Author.Needs.{needs}
 use borrow.Author.Tests.{le-ltb, lt-ltb, eq-eqb, ne-eqb}
-use native.Mathlib.Omega.{arith}
-use Prim.Native.Nat.{_+_, _^_, _≤_, _<_}
 use Rattle.notation.specs.Contents.{wordJudged}
 use Rattle.notation.proofs.rules.judge_word.Statement.{statement}
 use Rattle.notation.proofs.rules.judge_word.Tie as tie

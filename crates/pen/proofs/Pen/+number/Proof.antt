@@ -1,8 +1,6 @@
 -- `pen::Pen::number` meets its contract, by recursion; the number falls. Assumes nothing.
 use borrow.Author.Needs.{needs}
 use native.Mathlib.Omega.{arith}
-use mathlib.Core.Path.{_≡_, refl, sym, ap, _∙_}
-use mathlib.Core.List.{[], _∷_}
 use Rattle.pen.proofs.Decimals.{decimal-small, decimal-more}
 use Rattle.pen.proofs.Writing.{_⨾_}
 use Prim.Native.Nat.{ℕ, _<_}

@@ -1,11 +1,8 @@
 -- `pen::Pen::text` meets its contract. The invariant: the bytes from `i` on are left to write. The measure is what is left of the length.
 -- Assumes nothing.
 use borrow.Author.Needs.{needs}
-use native.Mathlib.Omega.{arith}
 use Prim.Native.Nat.{_≤_, _-_}
-use mathlib.Core.Path.{_≡_, refl}
 use lib.ListN.{length, drop}
-use Rattle.pen.specs.Page.{page, write}
 use Rattle.pen.proofs.Writing.{Left, left-all, left-more, left-none, bytes-more, bytes-none}
 use Rattle.pen.proofs.Pen.text.Statement.{statement}
 use Rattle.pen.proofs.Pen.text.Tie as tie

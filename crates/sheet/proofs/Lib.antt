@@ -6,3 +6,5 @@ pub mod Room
 pub mod Reading
 pub mod Paging
 pub mod FirstBytes
+pub mod OneText
+pub mod Worked

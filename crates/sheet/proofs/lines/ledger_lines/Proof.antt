@@ -53,8 +53,7 @@ loop-again c =
     let written = c .before .before .before in
     let made = written .before .before in
     let inside = made .before .before .before in
-    let more = rest-more _ _ _ _ _ (inside .loop-test .taken) _ (made .line-of .ensures) _ (c .step-over .ensures) in
-    (search needs, left-more (inside .before .loop .inv .1) more (written .item-line .ensures))
+    (search needs, left-more (inside .before .loop .inv .1) (rest-more _ _ _ _ _ (inside .loop-test .taken) _ (made .line-of .ensures) _ (c .step-over .ensures)) (written .item-line .ensures))
 
 same-length : tie.Need-same-length Inv-loop μ-loop
 same-length c = search needs

@@ -31,7 +31,6 @@ use Rattle.project.proofs.Passing.{all-passed}
 use Rattle.project.proofs.Laws.{checked-lines, project-from, projectNumbers, checked-gives}
 use Rattle.precision.specs.Precision.{precisionOf, precisionCents}
 use Rattle.precision.proofs.Rounded.{never-negative, no-interval}
-use Rattle.judge.specs.declared.Verdict.{Verdict}
 use Rattle.judge.specs.declared.Verdict.the-variants.{Below, Inconclusive, Above}
 use Rattle.judge.specs.declared.Judgement.{Judgement}
 use Rattle.judge.specs.Judge.{verdictOf, concluded, judgedLines, judgedAt, judgedFigures, outOfRange, judgedTotal, judgedLedger, judgeOf}

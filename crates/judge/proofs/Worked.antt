@@ -4,7 +4,7 @@ use mathlib.Core.List.{List, [], _∷_, _++_}
 use Prim.Native.Nat.{ℕ}
 use lib.ListN.{replicate}
 use Rattle.terms.specs.Numbers.{divUp}
-use Rattle.terms.specs.Outcome.{Outcome, accepted, refused, after}
+use Rattle.terms.specs.Outcome.{Outcome, accepted, refused}
 use Rattle.factors.specs.Levels.{levelOf}
 use Rattle.factors.specs.Factors.{rf, stepOf}
 use Rattle.factors.specs.Table.{table}

@@ -1,6 +1,6 @@
 -- The practice sheet: its cases marked *, each what is asked and what the sheet says, in one list; and what the operations' own definitions
 -- find. These are definitions: nothing is assumed.
-use Prim.Native.Nat.{ℕ, zero, suc, _+_, _*_}
+use Prim.Native.Nat.{ℕ, suc, _+_, _*_}
 use mathlib.Core.Path.{_≡_}
 use mathlib.Core.List.{List, [], _∷_, map}
 use lib.Dec.{eqb}

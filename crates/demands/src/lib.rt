@@ -68,7 +68,14 @@ fn project_meets(ledger: &[u64], n: u64, start: u64, errors: &[u64]) -> ProjectA
     project::project(ledger, n, start, errors)
 }
 
-fn judge_meets(level: u8, ledger: &[u64], n: u64, start: u64, errors: &[u64], te: u64) -> JudgeAnswer
+fn judge_meets(
+    level: u8,
+    ledger: &[u64],
+    n: u64,
+    start: u64,
+    errors: &[u64],
+    te: u64,
+) -> JudgeAnswer
     ensures { λ r. ⌜ JudgeContract level (now (ledger .entry)) n start (now (errors .entry)) te r ⌝ }
 {
     judge::judge(level, ledger, n, start, errors, te)

@@ -6,13 +6,18 @@ use Prim.Native.Nat.{ℕ, _≤_, _<_}
 use native.Mathlib.Nat.{eq-zero-or-pos}
 use native.Mathlib.Omega.{arith}
 use borrow.Author.Tests.{lt-ltb, le-ltb, eq-eqb, ne-eqb}
-use Rattle.terms.specs.Outcome.{accepted, refused, after}
+use Rattle.terms.specs.Outcome.{Outcome, accepted, refused, after}
 use Rattle.split.specs.declared.Figures.{Figures}
 use Rattle.split.specs.Split.{splitOf}
 use Rattle.draw.specs.Draw.{startIn, figuresFor, marksAt, drawOf}
 use Rattle.draw.specs.Row.{drawMarks, ones}
 
--- whether the start fits
+-- the figures for a start are what follows from the split's outcome
+pub from-split : (ledger : List ℕ) (n start beside : ℕ) {o : Outcome Figures} → o ≡ splitOf ledger n beside → after (startIn start) o ≡ figuresFor ledger n start beside
+unfolding figuresFor
+from-split ledger n start beside e = ap (after (startIn start)) e
+
+-- where the start stands to the interval
 module _ (start : ℕ) (f : Figures) where
   pub start-below : start < f .interval → accepted f ≡ startIn start f
   start-below h =
@@ -32,16 +37,6 @@ module _ (start : ℕ) (f : Figures) where
       (λ (z : f .interval ≡ 0). sym (simp (eq-eqb _ _ z, ne-eqb _ _ late)))
       (λ (s : 0 < f .interval). let some : f .interval ≡ 0 → ⊥ = λ z. omega arith in sym (simp (ne-eqb _ _ some, le-ltb _ _ h)))
       (eq-zero-or-pos (f .interval))
-
--- the split's refusals, and its figures
-module _ (ledger : List ℕ) (n start beside : ℕ) where
-  pub from-split : {k p : ℕ} → refused k p ≡ splitOf ledger n beside → refused k p ≡ figuresFor ledger n start beside
-  unfolding figuresFor
-  from-split e = ap (after (startIn start)) e
-
-  pub from-figures : (f : Figures) → accepted f ≡ splitOf ledger n beside → startIn start f ≡ figuresFor ledger n start beside
-  unfolding figuresFor
-  from-figures f e = ap (after (startIn start)) e
 
 -- the draw's own answer
 module _ (ledger : List ℕ) (n start beside : ℕ) where

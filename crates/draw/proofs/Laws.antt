@@ -22,7 +22,7 @@ use Rattle.draw.specs.Points.{Covers, points, covers}
 use Rattle.draw.specs.Row.{full, cents, rowCents, firstCent, markBy, marksFrom, drawMarks, ones}
 use Rattle.draw.specs.Draw.{startFits, startIn, figuresFor, marksAt, drawOf}
 use Rattle.draw.proofs.Points.{covers-agrees}
-use Rattle.draw.proofs.Answer.{start-below, from-figures}
+use Rattle.draw.proofs.Answer.{from-split, start-below}
 use Rattle.draw.proofs.MoreOutcomes.{gives-more}
 
 -- the row is as long as the sampled lines' total
@@ -62,7 +62,7 @@ start-facts ledger n start beside f e =
 
 -- a start below the interval is accepted
 pub start-accepted : (ledger : List ℕ) (n start beside : ℕ) (f : Figures) → splitOf ledger n beside ≡ accepted f → start < f .interval → figuresFor ledger n start beside ≡ accepted f
-start-accepted ledger n start beside f e h = sym (start-below start f h ∙ from-figures ledger n start beside f (sym e))
+start-accepted ledger n start beside f e h = sym (start-below start f h ∙ from-split ledger n start beside (sym e))
 
 -- the refusals that the draw gives
 abbrev pub drawNumbers : List ℕ

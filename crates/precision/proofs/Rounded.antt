@@ -7,8 +7,9 @@ use native.Mathlib.Omega.{arith}
 use lib.ListN.{length}
 use lib.IntN.{ℤ, pos, natAbs}
 use Rattle.terms.specs.Limits.{mostTotal}
+use Rattle.terms.specs.Numbers.{AllUpTo}
 use Rattle.factors.specs.declared.Level.{Level}
-use Rattle.precision.specs.Sorting.{sortDown, Falls, AllUpTo}
+use Rattle.precision.specs.Sorting.{sortDown, Falls}
 use Rattle.precision.specs.Precision.{hundredths, roundUp, precisionOf}
 use Rattle.precision.proofs.Sorted.{length-sort, sort-falls}
 use Rattle.precision.proofs.Sums.{Fallen, Weighing, byParts, in-naturals, by-parts-most, sum-small}

@@ -8,13 +8,13 @@ use mathlib.Core.List.{List, [], _∷_, _++_}
 use borrow.Author.Tests.{ltb-true, ltb-false}
 use lib.Dec.{ltb}
 use lib.ListN.{length, length-append}
-use Rattle.terms.specs.Numbers.{pick, sum, divUp}
+use Rattle.terms.specs.Numbers.{pick, sum, divUp, AllUpTo}
 use Rattle.terms.proofs.Rounding.{divUp-least}
 use Rattle.draw.specs.Row.{full}
 use Rattle.project.specs.declared.State.{State}
 use Rattle.project.specs.declared.State.the-variants.{NotDrawn, Drawn, Full}
 use Rattle.project.specs.declared.Line.{Line}
-use Rattle.project.specs.Lines.{amount, stateBy, sampledPart, countPart, total, amountBefore, amountsOf, AllUpTo}
+use Rattle.project.specs.Lines.{amount, stateBy, sampledPart, countPart, total, amountBefore, amountsOf}
 use Rattle.project.specs.Walk.{lineAt}
 
 -- an amount is rounded once, and upwards
@@ -47,6 +47,7 @@ before-more (Drawn a) e xs ys = go (ltb 0 e)
     go false = refl
 before-more Full e xs ys = refl
 
+-- the amounts of a list with one line more
 pub one-more : (ls : List Line) (l : Line) → amountsOf (ls ++ (l ∷ [])) ≡ amountsOf ls ++ amountBefore (l .state) (l .error) []
 unfolding amountsOf
 one-more [] l = refl

@@ -3,6 +3,7 @@ pub mod Walk
 pub mod Amounts
 pub mod Passing
 pub mod Checking
-pub mod Summing
+pub mod Keeping
+pub mod Gathering
 pub mod Laws
 pub mod Worked

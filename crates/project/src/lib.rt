@@ -7,7 +7,8 @@ ghost use Prim.Native.Nat.{_<_, _≤_};
 ghost use Rattle.terms.specs.Limits.{mostInterval};
 ghost use Rattle.project.specs.Lines.{amount};
 ghost use Rattle.project.specs.Walk.{lineAt, addedTo, Fits};
-ghost use Rattle.project.specs.Project.{lineSays, projectSays, checkedLine, projectionAt, projectOf, Ready};
+ghost use Rattle.project.specs.Gathered.{keptBy, Gathered};
+ghost use Rattle.project.specs.Project.{lineSays, projectSays, checkedLine, projectOf, Ready};
 
 // What a line ends as; a drawn line carries its projected amount.
 pub enum State {
@@ -138,10 +139,35 @@ pub fn added(sums: Projection, line: Line) -> Projection
     }
 }
 
-// Checks and adds the lines, one by one.
-fn project_lines(ledger: &[u64], interval: u64, start: u64, errors: &[u64]) -> ProjectAnswer
+// Keeps the amount of a drawn line with an error above 0 at the place m, while there is room.
+fn keep(amounts: &mut [u64], m: u64, line: Line)
+    ensures { λ _. ⌜ now (amounts .exit) ≡ keptBy (now (amounts .entry)) m (line .state) (line .error) ⌝ }
+{
+    let state = line.state;
+    let place = m as usize;
+    match state {
+        State::NotDrawn => {}
+        State::Drawn(amount) => {
+            if line.error > 0 {
+                if place < amounts.len() {
+                    amounts[place] = amount;
+                }
+            }
+        }
+        State::Full => {}
+    }
+}
+
+// Checks and adds the lines, one by one, and keeps the amounts in ledger order, as many as there is room for.
+pub fn gather(
+    ledger: &[u64],
+    interval: u64,
+    start: u64,
+    errors: &[u64],
+    amounts: &mut [u64],
+) -> ProjectAnswer
     requires { ⌜ Ready interval start (now ledger) (now errors) ⌝ }
-    ensures { λ r. ⌜ projectSays r ≡ projectionAt interval start (now (ledger .entry)) (now (errors .entry)) ⌝ }
+    ensures { λ r. ⌜ Gathered interval start (now (ledger .entry)) (now (errors .entry)) (now (amounts .entry)) (projectSays r) (now (amounts .exit)) ⌝ }
 {
     let mut sums = Projection {
         full: 0,
@@ -155,6 +181,7 @@ fn project_lines(ledger: &[u64], interval: u64, start: u64, errors: &[u64]) -> P
         match checked_line(Item(item), value, errors[item], interval, next) {
             LineAnswer::Refused(why) => return ProjectAnswer::Refused(why),
             LineAnswer::Known(line) => {
+                keep(amounts, sums.m, line);
                 sums = added(sums, line);
             }
         }
@@ -172,7 +199,8 @@ pub fn project(ledger: &[u64], n: u64, start: u64, errors: &[u64]) -> ProjectAns
         SplitAnswer::Refused(why) => ProjectAnswer::Refused(why),
         SplitAnswer::Split(figures) => {
             let interval = figures.interval;
-            project_lines(ledger, interval, start, errors)
+            let mut none = [0u64; 0];
+            gather(ledger, interval, start, errors, &mut none)
         }
     }
 }

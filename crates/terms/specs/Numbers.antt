@@ -1,5 +1,5 @@
--- A choice by a test, division rounded up, and the sum of a list. These are definitions: nothing is assumed.
-use Prim.Native.Nat.{ℕ, _+_, _-_, _/_}
+-- A choice by a test, division rounded up, the sum of a list, and a bound on its numbers. These are definitions: nothing is assumed.
+use Prim.Native.Nat.{ℕ, _+_, _-_, _/_, _≤_}
 use mathlib.Core.Bool.{Bool, true, false}
 use mathlib.Core.List.{List, [], _∷_}
 
@@ -16,3 +16,8 @@ divUp a b = (a + (b - 1)) / b
 abbrev pub sum : List ℕ → ℕ
 sum [] = 0
 sum (v ∷ l) = v + sum l
+
+-- no number of a list is above a bound
+abbrev pub AllUpTo : ℕ → List ℕ → Type 0
+AllUpTo bound [] = Unit
+AllUpTo bound (v ∷ l) = (v ≤ bound) × AllUpTo bound l

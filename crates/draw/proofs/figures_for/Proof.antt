@@ -1,8 +1,8 @@
--- `draw::figures_for` meets its contract: the split's refusals, and then whether the start fits its figures. Assumes nothing.
+-- `draw::figures_for` meets its contract: the split's refusal, or what the start makes of its figures. Assumes nothing.
 use borrow.Author.Needs.{needs}
 use mathlib.Core.Path.{sym, _∙_, ap}
 use Rattle.split.specs.Split.{splitSays}
-use Rattle.draw.proofs.Answer.{from-split, from-figures}
+use Rattle.draw.proofs.Answer.{from-split}
 use Rattle.draw.proofs.figures_for.Statement.{statement}
 use Rattle.draw.proofs.figures_for.Tie as tie
 
@@ -24,7 +24,7 @@ returns c = from-split _ _ _ _ (sym (ap splitSays (c .before .why .given .1)) �
 returns-2 : tie.Need-returns-2
 returns-2 c =
     let at = c .before .before in
-    c .start-in .ensures ∙ from-figures _ _ _ _ _ (sym (ap splitSays (at .figures .given .1)) ∙ at .before .before .split-figures .ensures)
+    c .start-in .ensures ∙ from-split _ _ _ _ (sym (ap splitSays (at .figures .given .1)) ∙ at .before .before .split-figures .ensures)
 
 pub figures-for-spec : {M : Type 1} → statement M
 figures-for-spec =

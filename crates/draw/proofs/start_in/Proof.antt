@@ -1,4 +1,4 @@
--- `draw::start_in` meets its contract: each return by the tests that led there. Assumes nothing.
+-- `draw::start_in` meets its contract: the tests that led to a `return` say where the start stands to the interval. Assumes nothing.
 use Rattle.draw.proofs.Answer.{start-below, start-none, start-outside}
 use Rattle.draw.proofs.start_in.Statement.{statement}
 use Rattle.draw.proofs.start_in.Tie as tie

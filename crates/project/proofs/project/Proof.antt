@@ -15,9 +15,12 @@ enum-known-why c = search needs
 enum-known-figures : tie.Need-enum-known-figures
 enum-known-figures c = search needs
 
-project-lines-requires : tie.Need-project-lines-requires
-project-lines-requires c κs =
-    let at = c .before in
+slice-aggregate-gather : tie.Need-slice-aggregate-gather
+slice-aggregate-gather c = search needs
+
+gather-requires : tie.Need-gather-requires
+gather-requires c κs =
+    let at = c .before .before in
     ready _ _ _ _ _ (sym (at .before .before .figures-for .ensures) ∙ ap splitSays (at .figures .given .1))
 
 returns : tie.Need-returns
@@ -25,8 +28,8 @@ returns c = project-refused _ _ _ _ (sym (ap splitSays (c .before .why .given .1
 
 returns-2 : tie.Need-returns-2
 returns-2 c =
-    let at = c .before .before in
-    c .project-lines .ensures ∙ project-from _ _ _ _ _ (sym (ap splitSays (at .figures .given .1)) ∙ at .before .before .figures-for .ensures)
+    let at = c .before .before .before .before in
+    c .before .gather .ensures .projected ∙ project-from _ _ _ _ _ (sym (ap splitSays (at .figures .given .1)) ∙ at .before .before .figures-for .ensures)
 
 pub project-spec : {M : Type 1} → statement M
 project-spec =
@@ -35,6 +38,7 @@ project-spec =
     figures-for-requires
     enum-known-why
     enum-known-figures
-    project-lines-requires
+    slice-aggregate-gather
+    gather-requires
     returns
     returns-2)

@@ -1,0 +1,3 @@
+-- What the proofs of several functions use, and what callers cite.
+pub mod Answer
+pub mod Lines

@@ -1,0 +1,158 @@
+// The judgement: upper limit and verdict, steps 6 and 7.
+use factors::Level;
+use factors::LevelAnswer;
+use ledger::LedgerAnswer;
+use project::ProjectAnswer;
+use project::Projection;
+use split::SplitAnswer;
+use terms::Refusal;
+ghost use mathlib.Core.Path.{_≡_};
+ghost use lib.ListN.{length};
+ghost use Rattle.terms.specs.Outcome.{accepted};
+ghost use Rattle.ledger.specs.Ledger.{ledgerOf};
+ghost use Rattle.split.specs.Split.{splitSays, Totalled};
+ghost use Rattle.project.specs.Project.{Ready};
+ghost use Rattle.judge.specs.Judge.{judgeSays, verdictOf, concluded, Conclusive, figuresAt, judgedAt, judgedFigures, judgedLedger, judgeOf};
+
+pub enum Verdict {
+    Below,
+    Inconclusive,
+    Above,
+}
+
+// The projection's answer with the precision, the upper limit and the verdict.
+pub struct Judgement {
+    pub projection: Projection,
+    pub precision: u64,
+    pub upper_limit: u64,
+    pub verdict: Verdict,
+}
+
+pub enum JudgeAnswer {
+    Judged(Judgement),
+    Refused(Refusal),
+}
+
+// Above when the projected error exceeds TE, below when the upper limit is not above TE, otherwise inconclusive.
+fn verdict_of(te: u64, projected: u64, limit: u64) -> Verdict
+    ensures { λ r. ⌜ r ≡ verdictOf te projected limit ⌝ }
+{
+    if projected > te {
+        return Verdict::Above;
+    }
+    if limit <= te {
+        return Verdict::Below;
+    }
+    Verdict::Inconclusive
+}
+
+// The upper limit is both projected sums and the precision.
+fn conclude(te: u64, projection: Projection, precision: u64) -> Judgement
+    requires { ⌜ Conclusive projection precision ⌝ }
+    ensures { λ r. ⌜ r ≡ concluded te projection precision ⌝ }
+{
+    let projected = projection.full + projection.sampled;
+    let upper_limit = projected + precision;
+    let verdict = verdict_of(te, projected, upper_limit);
+    Judgement {
+        projection,
+        precision,
+        upper_limit,
+        verdict,
+    }
+}
+
+// 14 and 15 line by line, then 16, or the judgement at an interval and a start.
+fn judge_lines(
+    level: Level,
+    ledger: &[u64],
+    interval: u64,
+    start: u64,
+    errors: &[u64],
+    te: u64,
+) -> JudgeAnswer
+    requires { ⌜ Ready interval start (now ledger) (now errors) ⌝ }
+    ensures { λ r. ⌜ judgeSays r ≡ judgedAt level (now (ledger .entry)) start (now (errors .entry)) te interval ⌝ }
+{
+    let mut amounts = [0u64; terms::MOST_ERRORS];
+    match project::gather(ledger, interval, start, errors, &mut amounts) {
+        ProjectAnswer::Refused(why) => JudgeAnswer::Refused(why),
+        ProjectAnswer::Projected(projection) => {
+            let m = projection.m as usize;
+            if m > terms::MOST_ERRORS {
+                return JudgeAnswer::Refused(Refusal::TooManyErrors);
+            }
+            let precision = precision::precision(level, interval, &mut amounts[..m]);
+            let judgement = conclude(te, projection, precision);
+            JudgeAnswer::Judged(judgement)
+        }
+    }
+}
+
+// The figures for a start, from a total that is known: 8, 9, 10, 11.
+fn figures_at(ledger: &[u64], n: u64, start: u64, total: u64) -> SplitAnswer
+    requires { ⌜ Totalled (now ledger) total ⌝ }
+    ensures { λ r. ⌜ splitSays r ≡ figuresAt (now (ledger .entry)) n start total ⌝ }
+{
+    match split::split_total(ledger, n, total) {
+        SplitAnswer::Refused(why) => SplitAnswer::Refused(why),
+        SplitAnswer::Split(figures) => draw::start_in(start, figures),
+    }
+}
+
+// The judgement of a ledger with this total.
+fn judge_total(
+    level: Level,
+    ledger: &[u64],
+    n: u64,
+    start: u64,
+    errors: &[u64],
+    te: u64,
+    total: u64,
+) -> JudgeAnswer
+    requires { ⌜ accepted total ≡ ledgerOf (now ledger) (length (now errors)) ⌝ }
+    ensures { λ r. ⌜ judgeSays r ≡ judgedFigures level (now (ledger .entry)) n start (now (errors .entry)) te ⌝ }
+{
+    match figures_at(ledger, n, start, total) {
+        SplitAnswer::Refused(why) => JudgeAnswer::Refused(why),
+        SplitAnswer::Split(figures) => {
+            let interval = figures.interval;
+            judge_lines(level, ledger, interval, start, errors, te)
+        }
+    }
+}
+
+// The judgement at a known level: the refusals of the ledger, then 6.
+fn judge_level(
+    level: Level,
+    ledger: &[u64],
+    n: u64,
+    start: u64,
+    errors: &[u64],
+    te: u64,
+) -> JudgeAnswer
+    ensures { λ r. ⌜ judgeSays r ≡ judgedLedger (now (ledger .entry)) n start (now (errors .entry)) te level ⌝ }
+{
+    match ledger::judge_ledger(ledger, errors.len()) {
+        LedgerAnswer::Refused(why) => JudgeAnswer::Refused(why),
+        LedgerAnswer::Total(total) => {
+            if te == 0 {
+                return JudgeAnswer::Refused(Refusal::ToleranceOutOfRange);
+            }
+            if te > total {
+                return JudgeAnswer::Refused(Refusal::ToleranceOutOfRange);
+            }
+            judge_total(level, ledger, n, start, errors, te, total)
+        }
+    }
+}
+
+// The judgement: projection, precision, upper limit and verdict.
+pub fn judge(level: u8, ledger: &[u64], n: u64, start: u64, errors: &[u64], te: u64) -> JudgeAnswer
+    ensures { λ r. ⌜ judgeSays r ≡ judgeOf level (now (ledger .entry)) n start (now (errors .entry)) te ⌝ }
+{
+    match factors::level_of(level) {
+        LevelAnswer::Refused(why) => JudgeAnswer::Refused(why),
+        LevelAnswer::Known(known) => judge_level(known, ledger, n, start, errors, te),
+    }
+}

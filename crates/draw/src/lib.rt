@@ -120,8 +120,8 @@ pub fn start_in(start: u64, figures: Figures) -> SplitAnswer
     SplitAnswer::Split(figures)
 }
 
-// The split's figures, after its refusals and 11: what the draw and the projection start from. `beside` is the length of the
-// buffer that is lent with the ledger.
+// The split's figures, or 11: what the draw and the projection start from. `beside` is the length of the buffer that is lent
+// with the ledger.
 pub fn figures_for(ledger: &[u64], n: u64, start: u64, beside: usize) -> SplitAnswer
     ensures { λ r. ⌜ splitSays r ≡ figuresFor (now (ledger .entry)) n start beside ⌝ }
 {

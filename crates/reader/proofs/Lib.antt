@@ -1,0 +1,6 @@
+-- What the proofs of several functions use.
+pub mod Finding
+pub mod Passing
+pub mod Buffers
+pub mod Second
+pub mod Answers

@@ -1,0 +1,24 @@
+-- `reader::rules::judge_error` meets its contract: the tests are the rule. Assumes nothing.
+use borrow.Author.Needs.{needs}
+use native.Mathlib.Omega.{arith}
+use Rattle.reader.proofs.Passing.{passes, fails}
+use Rattle.reader.proofs.rules.judge_error.Statement.{statement}
+use Rattle.reader.proofs.rules.judge_error.Tie as tie
+
+add-t7 : tie.Need-add-t7
+add-t7 c = search needs
+
+returns : tie.Need-returns
+returns c = passes _ _ (omega arith)
+
+returns-2 : tie.Need-returns-2
+returns-2 c = fails _ _ (λ h. omega arith)
+
+returns-3 : tie.Need-returns-3
+returns-3 c = fails _ _ (λ h. omega arith)
+
+returns-4 : tie.Need-returns-4
+returns-4 c = fails _ _ (λ h. omega arith)
+
+pub judge-error-spec : {M : Type 1} → statement M
+judge-error-spec = tie.close (tie.spec add-t7 returns returns-2 returns-3 returns-4)

@@ -1,0 +1,21 @@
+-- `reader::rules::judge_word` meets its contract: the tests are the rule. Assumes nothing.
+use borrow.Author.Needs.{needs}
+use native.Mathlib.Omega.{arith}
+use Rattle.reader.proofs.Passing.{passes, fails}
+use Rattle.reader.proofs.rules.judge_word.Statement.{statement}
+use Rattle.reader.proofs.rules.judge_word.Tie as tie
+
+add-t5 : tie.Need-add-t5
+add-t5 c = search needs
+
+returns : tie.Need-returns
+returns c = passes _ _ (omega arith)
+
+returns-2 : tie.Need-returns-2
+returns-2 c = fails _ _ (λ h. omega arith)
+
+returns-3 : tie.Need-returns-3
+returns-3 c = fails _ _ (λ h. omega arith)
+
+pub judge-word-spec : {M : Type 1} → statement M
+judge-word-spec = tie.close (tie.spec add-t5 returns returns-2 returns-3)

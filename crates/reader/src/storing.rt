@@ -1,0 +1,117 @@
+// The second pass, over a file that keeps the rules: its content goes to the buffers.
+use crate::Judged;
+use crate::records;
+use crate::rules;
+use workfile::Contents;
+use workfile::FileRecord;
+use workfile::Plan;
+use workfile::Tally;
+ghost use mathlib.Core.Path.{_≡_};
+ghost use Prim.Native.Nat.{_≤_};
+ghost use lib.ListN.{length};
+ghost use Rattle.workfile.specs.Promises.{Rooms};
+ghost use Rattle.reader.specs.Steps.{recordAt, contentsWith, zeroed, Ready, Put, Stepped, IsLegal, Stored};
+
+// Zeros from `from` up to `to`.
+fn clear(buffer: &mut [u64], from: usize, to: usize)
+    requires { ⌜ (from ≤ to) × (to ≤ length (now buffer)) ⌝ }
+    ensures { λ r. ⌜ now (buffer .exit) ≡ zeroed (now (buffer .entry)) from to ⌝ }
+{
+    let mut i = from;
+    while i < to {
+        buffer[i] = 0;
+        i += 1;
+    }
+}
+
+// A record that the rules allow goes to its place; lines that E passes over, and those after the last E, get error 0.
+fn put(tally: Tally, found: FileRecord, words: &mut [u64], values: &mut [u64], errors: &mut [u64])
+    requires { ⌜ Ready tally found (now words) (now values) (now errors) ⌝ }
+    ensures { λ x. ⌜ Put tally found (now (words .entry)) (now (values .entry)) (now (errors .entry)) (now (words .exit)) (now (values .exit)) (now (errors .exit)) ⌝ }
+{
+    match found {
+        FileRecord::Word(word) => {
+            let i = tally.words;
+            words[i] = word;
+        }
+        FileRecord::Value(value) => {
+            let i = tally.lines;
+            values[i] = value;
+        }
+        FileRecord::ErrorOf(line, error) => {
+            let i = tally.next_line;
+            clear(errors, i, line);
+            errors[line] = error;
+        }
+        FileRecord::End(count, _) => {
+            let i = tally.next_line;
+            clear(errors, i, count);
+        }
+        FileRecord::Nothing => {}
+    }
+}
+
+// The record at a place of a legal file goes to the buffers; answers its judgement.
+fn step(
+    file: &[u8],
+    at: usize,
+    tally: Tally,
+    words: &mut [u64],
+    values: &mut [u64],
+    errors: &mut [u64],
+) -> Judged
+    requires { ⌜ (at ≤ length (now file)) × Ready tally (recordAt (now file) at) (now words) (now values) (now errors) ⌝ }
+    ensures { λ r. ⌜ Stepped (now (file .entry)) at tally r (now (words .entry)) (now (values .entry)) (now (errors .entry)) (now (words .exit)) (now (values .exit)) (now (errors .exit)) ⌝ }
+{
+    let found = records::record_at(file, at);
+    put(tally, found, words, values, errors);
+    rules::judge(tally, found)
+}
+
+// The reader's answer: the plan, and the counts of words and lines.
+fn contents(plan: Plan, tally: Tally) -> Contents
+    ensures { λ r. ⌜ r ≡ contentsWith plan tally ⌝ }
+{
+    Contents {
+        level: plan.level,
+        te: plan.te,
+        ae: plan.ae,
+        words: tally.words as u64,
+        lines: tally.lines as u64,
+    }
+}
+
+// The whole pass; answers the plan and the counts.
+pub fn store(file: &[u8], words: &mut [u64], values: &mut [u64], errors: &mut [u64]) -> Contents
+    requires { ⌜ IsLegal (now file) × Rooms (now words) (now values) (now errors) ⌝ }
+    ensures { λ r. ⌜ Stored (now (file .entry)) (now (words .entry)) (now (values .entry)) (now (errors .entry)) r (now (words .exit)) (now (values .exit)) (now (errors .exit)) ⌝ }
+{
+    let plan = Plan {
+        level: file[1],
+        te: records::eight_bytes(file, 2),
+        ae: records::eight_bytes(file, 10),
+    };
+    let mut at: usize = 18;
+    let mut tally = Tally {
+        words: 0,
+        lines: 0,
+        sum: 0,
+        next_line: 0,
+    };
+    loop {
+        let judged = step(file, at, tally, words, values, errors);
+        match judged {
+            Judged::Next(next, size) => {
+                tally = next;
+                at = at + size;
+            }
+            Judged::Last => {
+                return contents(plan, tally);
+            }
+            // Not met in a legal file.
+            Judged::Bad => {
+                return contents(plan, tally);
+            }
+        }
+    }
+}

@@ -31,7 +31,7 @@ contentText c = stepsText (c .plan) (c .words) (c .values) (c .errors)
 unfoldable pub sheetText : List ℕ → List ℕ
 sheetText file = textBy contentText (decode file)
 
--- No text is longer (`sheet-short` of proofs/Room.antt): 90 bytes for each of 2,048 lines, and 401 for the other five.
+-- No text is longer, as `print_file` ensures: 90 bytes for each of 2,048 lines, and 401 for the other five.
 abbrev pub longestText : ℕ
 longestText = 184721
 

@@ -108,7 +108,9 @@ pub fn refused_line(pen: Pen, page: &mut [u8], why: Refusal) -> Pen
     ensures { λ r. ⌜ Wrote (now (page .entry)) (pen .at) (refusedLine (number why) (place why)) (now (page .exit)) (r .at) ⌝ }
     ensures { λ r. ⌜ length (refusedLine (number why) (place why)) ≤ 50 ⌝ }
 {
-    let numbers = [terms::number_of(why), terms::place_of(why)];
+    let number = terms::number_of(why);
+    let place = terms::place_of(why);
+    let numbers = [number, place];
     pen.line(page, b"refused", &numbers)
 }
 

@@ -5,7 +5,7 @@ use mathlib.Core.Path.{_≡_, sym, ap, _∙_}
 use mathlib.Core.List.{List, [], _∷_}
 use lib.ListN.{length, getD, drop}
 use lib.Seq.{getD-drop}
-use Rattle.terms.specs.Outcome.{Outcome, accepted, refused, after}
+use Rattle.terms.specs.Outcome.{accepted, after}
 use Rattle.terms.proofs.Outcomes.{never, after-accepted}
 use Rattle.terms.proofs.Tests.{by-test}
 use Rattle.factors.specs.declared.Level.{Level}

@@ -7,11 +7,11 @@ use lib.ListN.{length, take, replicate}
 use Rattle.terms.specs.declared.Refusal.{Refusal}
 use Rattle.terms.specs.Refusals.{number, place}
 use Rattle.terms.specs.Outcome.{Outcome, accepted, refused, after}
-use Rattle.terms.proofs.Outcomes.{never, after-accepted}
+use Rattle.terms.proofs.Outcomes.{never}
 use Rattle.workfile.specs.declared.Contents.{Contents}
 use Rattle.workfile.specs.declared.ReadAnswer.{ReadAnswer}
 use Rattle.workfile.specs.declared.ReadAnswer.the-variants.{Read, Refused}
-use Rattle.workfile.specs.Content.{Content, mostWords, mostFileLines}
+use Rattle.workfile.specs.Content.{mostWords, mostFileLines}
 use Rattle.workfile.specs.Decode.{decode}
 use Rattle.workfile.specs.Promises.{readSays, counted, countsOf, planWith, Rooms, ReadPromise}
 use Rattle.workfile.proofs.OneFile.{read-counts}

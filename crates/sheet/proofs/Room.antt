@@ -19,7 +19,6 @@ use Rattle.draw.specs.Walk.{stepOf}
 use Rattle.project.specs.declared.State.{State}
 use Rattle.project.specs.declared.State.the-variants.{NotDrawn, Drawn, Full}
 use Rattle.project.specs.declared.Line.{Line}
-use Rattle.project.specs.declared.Projection.{Projection}
 use Rattle.project.specs.Lines.{amount, stateBy}
 use Rattle.project.specs.Walk.{lineAt, linesWalk}
 use Rattle.project.proofs.Amounts.{amount-most}

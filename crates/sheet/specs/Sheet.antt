@@ -9,7 +9,6 @@ use Rattle.terms.specs.Numbers.{pick}
 use Rattle.workfile.specs.declared.Plan.{Plan}
 use Rattle.workfile.specs.Content.{Content}
 use Rattle.workfile.specs.Decode.{decode}
-use Rattle.sheet.specs.declared.Answers.{Answers}
 use Rattle.sheet.specs.declared.SheetAnswer.{SheetAnswer}
 use Rattle.sheet.specs.declared.SheetAnswer.the-variants.{Printed, Refused}
 use Rattle.sheet.specs.Steps.{stepsOf}

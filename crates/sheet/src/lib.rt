@@ -9,7 +9,6 @@ use start::Chosen;
 use terms::Refusal;
 use workfile::Plan;
 use workfile::ReadAnswer;
-ghost use mathlib.Core.Path.{_≡_};
 ghost use Prim.Native.Nat.{_+_, _*_, _≤_};
 ghost use lib.ListN.{length};
 ghost use Rattle.pen.specs.Page.{Wrote, Printed};
@@ -50,7 +49,14 @@ pub enum SheetAnswer {
 }
 
 // The text of a file's content.
-fn print_content(pen: Pen, page: &mut [u8], plan: Plan, words: &[u64], ledger: &[u64], errors: &[u64]) -> Pen
+fn print_content(
+    pen: Pen,
+    page: &mut [u8],
+    plan: Plan,
+    words: &[u64],
+    ledger: &[u64],
+    errors: &[u64],
+) -> Pen
     ensures { λ r. ⌜ Wrote (now (page .entry)) (pen .at) (stepsText plan (now (words .entry)) (now (ledger .entry)) (now (errors .entry))) (now (page .exit)) (r .at) ⌝ }
     ensures { λ r. ⌜ length (stepsText plan (now (words .entry)) (now (ledger .entry)) (now (errors .entry))) ≤ 401 + 90 * length (now (ledger .entry)) ⌝ }
 {
@@ -78,7 +84,14 @@ fn print_file(pen: Pen, page: &mut [u8], file: &[u8]) -> Pen
             };
             let count = contents.words as usize;
             let lines = contents.lines as usize;
-            print_content(pen, page, plan, &words[..count], &values[..lines], &errors[..lines])
+            print_content(
+                pen,
+                page,
+                plan,
+                &words[..count],
+                &values[..lines],
+                &errors[..lines],
+            )
         }
     }
 }

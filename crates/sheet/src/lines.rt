@@ -27,7 +27,13 @@ fn plan_line(pen: Pen, page: &mut [u8], planned: Planned) -> Pen
 fn split_line(pen: Pen, page: &mut [u8], figures: Figures) -> Pen
     ensures { λ r. ⌜ Wrote (now (page .entry)) (pen .at) (splitLine figures) (now (page .exit)) (r .at) ⌝ }
 {
-    let numbers = [figures.interval, figures.draws_left, figures.sampled_total, figures.full_lines, figures.full_total];
+    let numbers = [
+        figures.interval,
+        figures.draws_left,
+        figures.sampled_total,
+        figures.full_lines,
+        figures.full_total,
+    ];
     pen.line(page, b"split", &numbers)
 }
 
@@ -57,7 +63,14 @@ fn item_line(pen: Pen, page: &mut [u8], item: u64, line: Line) -> Pen
 }
 
 // The drawn and full lines, in ledger order.
-fn ledger_lines(pen: Pen, page: &mut [u8], ledger: &[u64], errors: &[u64], interval: u64, start: u64) -> Pen
+fn ledger_lines(
+    pen: Pen,
+    page: &mut [u8],
+    ledger: &[u64],
+    errors: &[u64],
+    interval: u64,
+    start: u64,
+) -> Pen
     requires { ⌜ Printable interval (now ledger) (now errors) ⌝ }
     ensures { λ r. ⌜ Wrote (now (page .entry)) (pen .at) (ledgerText interval start (now (ledger .entry)) (now (errors .entry))) (now (page .exit)) (r .at) ⌝ }
 {
@@ -115,7 +128,13 @@ pub fn refused_line(pen: Pen, page: &mut [u8], why: Refusal) -> Pen
 }
 
 // The whole sheet of what the steps have answered.
-pub fn answers_text(pen: Pen, page: &mut [u8], answers: Answers, ledger: &[u64], errors: &[u64]) -> Pen
+pub fn answers_text(
+    pen: Pen,
+    page: &mut [u8],
+    answers: Answers,
+    ledger: &[u64],
+    errors: &[u64],
+) -> Pen
     requires { ⌜ Printable (answers .figures .interval) (now ledger) (now errors) ⌝ }
     ensures { λ r. ⌜ Wrote (now (page .entry)) (pen .at) (answersText (now (ledger .entry)) (now (errors .entry)) answers) (now (page .exit)) (r .at) ⌝ }
     ensures { λ r. ⌜ length (answersText (now (ledger .entry)) (now (errors .entry)) answers) ≤ 401 + 90 * length (now (ledger .entry)) ⌝ }

@@ -15,10 +15,23 @@ ghost use mathlib.Core.Path.{_≡_};
 ghost use Rattle.sheet.specs.Steps.{stepsSays, judgedFrom, startedFrom, splitFrom, sizedFrom, totalledFrom, stepsOf};
 
 // The judgement: 14 and 15 line by line, then 16.
-fn judged(planned: Planned, ledger: &[u64], errors: &[u64], figures: Figures, chosen: Chosen) -> StepsAnswer
+fn judged(
+    planned: Planned,
+    ledger: &[u64],
+    errors: &[u64],
+    figures: Figures,
+    chosen: Chosen,
+) -> StepsAnswer
     ensures { λ r. ⌜ stepsSays r ≡ judgedFrom planned (now (ledger .entry)) (now (errors .entry)) figures chosen ⌝ }
 {
-    match judge::judge(planned.level, ledger, planned.draws, chosen.start, errors, planned.te) {
+    match judge::judge(
+        planned.level,
+        ledger,
+        planned.draws,
+        chosen.start,
+        errors,
+        planned.te,
+    ) {
         JudgeAnswer::Refused(why) => StepsAnswer::Refused(why),
         JudgeAnswer::Judged(judgement) => StepsAnswer::Answered(Answers {
             planned,
@@ -30,7 +43,13 @@ fn judged(planned: Planned, ledger: &[u64], errors: &[u64], figures: Figures, ch
 }
 
 // The random start: 12.
-fn started(planned: Planned, words: &[u64], ledger: &[u64], errors: &[u64], figures: Figures) -> StepsAnswer
+fn started(
+    planned: Planned,
+    words: &[u64],
+    ledger: &[u64],
+    errors: &[u64],
+    figures: Figures,
+) -> StepsAnswer
     ensures { λ r. ⌜ stepsSays r ≡ startedFrom planned (now (words .entry)) (now (ledger .entry)) (now (errors .entry)) figures ⌝ }
 {
     match start::start(figures.interval, words) {

@@ -1,6 +1,6 @@
 -- `sheet::print_file` meets its contract: the line of refusal 17, or the text of the content that was read. Assumes nothing.
 use native.Mathlib.Omega.{arith}
-use mathlib.Core.Path.{_≡_, ap}
+use mathlib.Core.Path.{ap}
 use lib.ListN.{length}
 use Rattle.pen.proofs.Writing.{as-text}
 use Rattle.sheet.proofs.Reading.{desk-rooms, file-refused, AtRead, words-long, values-long, errors-long, words-few, lines-few, file-read}

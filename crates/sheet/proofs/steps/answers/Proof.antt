@@ -1,5 +1,5 @@
 -- `sheet::steps::answers` meets its contract: 1, or what follows at a known level. Assumes nothing.
-use mathlib.Core.Path.{_≡_, sym, ap, _∙_}
+use mathlib.Core.Path.{sym, ap, _∙_}
 use Rattle.factors.specs.Levels.{levelSays}
 use Rattle.sheet.proofs.Following.{from-level}
 use borrow.Author.Needs.{needs}

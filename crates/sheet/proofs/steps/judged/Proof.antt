@@ -1,5 +1,5 @@
 -- `sheet::steps::judged` meets its contract: the judgement's refusal, or all answers. Assumes nothing.
-use mathlib.Core.Path.{_≡_, sym, ap, _∙_}
+use mathlib.Core.Path.{sym, ap, _∙_}
 use mathlib.Core.List.{[]}
 use Rattle.judge.specs.Judge.{judgeSays}
 use Rattle.sheet.proofs.Following.{from-judge}

@@ -1,5 +1,5 @@
 -- `sheet::steps::parted` meets its contract: the split's refusal, or what follows from its figures. Assumes nothing.
-use mathlib.Core.Path.{_≡_, sym, ap, _∙_}
+use mathlib.Core.Path.{sym, ap, _∙_}
 use Rattle.split.specs.Split.{splitSays}
 use Rattle.sheet.proofs.Following.{from-split}
 use borrow.Author.Needs.{needs}

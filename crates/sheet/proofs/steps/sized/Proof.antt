@@ -1,5 +1,5 @@
 -- `sheet::steps::sized` meets its contract: the size's refusal, or what follows from the draws. Assumes nothing.
-use mathlib.Core.Path.{_≡_, sym, ap, _∙_}
+use mathlib.Core.Path.{sym, ap, _∙_}
 use Rattle.size.specs.Size.{sizeSays}
 use Rattle.sheet.proofs.Following.{from-size}
 use borrow.Author.Needs.{needs}

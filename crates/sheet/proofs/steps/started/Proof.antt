@@ -1,5 +1,5 @@
 -- `sheet::steps::started` meets its contract: the start's refusal, or what follows from the start. Assumes nothing.
-use mathlib.Core.Path.{_≡_, sym, ap, _∙_}
+use mathlib.Core.Path.{sym, ap, _∙_}
 use Rattle.start.specs.Start.{startSays}
 use Rattle.sheet.proofs.Following.{from-start}
 use borrow.Author.Needs.{needs}

@@ -1,5 +1,5 @@
 -- `sheet::steps::totalled` meets its contract: the ledger's refusal, or what follows from its total. Assumes nothing.
-use mathlib.Core.Path.{_≡_, sym, ap, _∙_}
+use mathlib.Core.Path.{sym, ap, _∙_}
 use Rattle.ledger.specs.Ledger.{ledgerSays}
 use Rattle.sheet.proofs.Following.{from-ledger}
 use borrow.Author.Needs.{needs}

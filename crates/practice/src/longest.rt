@@ -6,10 +6,32 @@ use crate::steps::Aim;
 fn cases(ledger: &[u64]) {
     let lines = ledger.len();
     let answer = split::split_figures(ledger, 1_000_000, lines);
-    steps::figures(b"split of 1000000 lines of 7, n 1000000", b" 7 1000000 7000000 0 0", answer);
-    steps::project(b"  each with an error of 7", b" 0 7000000 1000000", ledger, 1_000_000, 6, ledger);
-    let aim = Aim { level: 95, te: 100_000 };
-    steps::judge(b"  judged", b" refused 16 0", aim, ledger, 1_000_000, 6, ledger);
+    steps::figures(
+        b"split of 1000000 lines of 7, n 1000000",
+        b" 7 1000000 7000000 0 0",
+        answer,
+    );
+    steps::project(
+        b"  each with an error of 7",
+        b" 0 7000000 1000000",
+        ledger,
+        1_000_000,
+        6,
+        ledger,
+    );
+    let aim = Aim {
+        level: 95,
+        te: 100_000,
+    };
+    steps::judge(
+        b"  judged",
+        b" refused 16 0",
+        aim,
+        ledger,
+        1_000_000,
+        6,
+        ledger,
+    );
 }
 
 pub fn all() {

@@ -7,13 +7,7 @@ fn draws_line_3(ledger: &[u64; 5], n: u64, start: u64) -> u64 {
     let mut marks = [9u8; 5];
     match draw::draw(ledger, n, start, &mut marks) {
         DrawAnswer::Refused(_) => 0,
-        DrawAnswer::Drawn(lines) => {
-            if marks[3] == 1 && lines == 1 {
-                1
-            } else {
-                0
-            }
-        }
+        DrawAnswer::Drawn(lines) => { if marks[3] == 1 && lines == 1 { 1 } else { 0 } }
     }
 }
 
@@ -30,7 +24,11 @@ pub fn starts_that_draw_line_3(ledger: &[u64; 5], n: u64, interval: u64) -> u64 
 
 // A sum, or the larger part where it would pass 64 bits.
 fn add(a: u64, b: u64) -> u64 {
-    if a <= 0xFFFF_FFFF_FFFF_FFFF - b { a + b } else { a }
+    if a <= 0xFFFF_FFFF_FFFF_FFFF - b {
+        a + b
+    } else {
+        a
+    }
 }
 
 // The error of a line, where it is drawn or full.

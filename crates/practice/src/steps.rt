@@ -17,7 +17,14 @@ pub fn figures(name: &[u8], expected: &[u8], answer: SplitAnswer) {
 }
 
 // The split's figures, and the marks that it leaves where 9 stood.
-pub fn split(name: &[u8], expected: &[u8], marked: &[u8], ledger: &[u64], n: u64, marks: &mut [u8]) {
+pub fn split(
+    name: &[u8],
+    expected: &[u8],
+    marked: &[u8],
+    ledger: &[u64],
+    n: u64,
+    marks: &mut [u8],
+) {
     figures(name, expected, split::split(ledger, n, marks));
     lines::marks(b"  its marks", marked, marks);
 }
@@ -30,7 +37,15 @@ pub fn start(name: &[u8], expected: &[u8], interval: u64, words: &[u64]) {
 }
 
 // The number of lines drawn, and the marks that the draw leaves.
-pub fn draw(name: &[u8], expected: &[u8], marked: &[u8], ledger: &[u64], n: u64, start: u64, marks: &mut [u8]) {
+pub fn draw(
+    name: &[u8],
+    expected: &[u8],
+    marked: &[u8],
+    ledger: &[u64],
+    n: u64,
+    start: u64,
+    marks: &mut [u8],
+) {
     let mut page = [0u8; 200];
     let opened = lines::open(&mut page, name, expected);
     let told = answers::put_draw(opened, &mut page, draw::draw(ledger, n, start, marks));
@@ -41,7 +56,11 @@ pub fn draw(name: &[u8], expected: &[u8], marked: &[u8], ledger: &[u64], n: u64,
 pub fn project(name: &[u8], expected: &[u8], ledger: &[u64], n: u64, start: u64, errors: &[u64]) {
     let mut page = [0u8; 200];
     let opened = lines::open(&mut page, name, expected);
-    let told = answers::put_project(opened, &mut page, project::project(ledger, n, start, errors));
+    let told = answers::put_project(
+        opened,
+        &mut page,
+        project::project(ledger, n, start, errors),
+    );
     lines::close(told, &mut page);
 }
 
@@ -51,7 +70,15 @@ pub struct Aim {
     pub te: u64,
 }
 
-pub fn judge(name: &[u8], expected: &[u8], aim: Aim, ledger: &[u64], n: u64, start: u64, errors: &[u64]) {
+pub fn judge(
+    name: &[u8],
+    expected: &[u8],
+    aim: Aim,
+    ledger: &[u64],
+    n: u64,
+    start: u64,
+    errors: &[u64],
+) {
     let mut page = [0u8; 200];
     let opened = lines::open(&mut page, name, expected);
     let answer = judge::judge(aim.level, ledger, n, start, errors, aim.te);

@@ -56,7 +56,7 @@ projectSeen o =
     }
 
 -- a verdict as a number; 0 is none of them
-abbrev pub verdictNumber : Verdict → ℕ
+unfoldable pub verdictNumber : Verdict → ℕ
 verdictNumber Below = 1
 verdictNumber Inconclusive = 2
 verdictNumber Above = 3

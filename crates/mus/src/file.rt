@@ -26,15 +26,18 @@ pub extern "C" fn mus_read(
             words: 0,
             lines: 0,
         },
-        ReadAnswer::Read(contents) => ReadResult {
-            refusal: 0,
-            place: 0,
-            level: contents.level as u64,
-            te: contents.te,
-            ae: contents.ae,
-            words: contents.words,
-            lines: contents.lines,
-        },
+        ReadAnswer::Read(contents) => {
+            let level = contents.level as u64;
+            ReadResult {
+                refusal: 0,
+                place: 0,
+                level,
+                te: contents.te,
+                ae: contents.ae,
+                words: contents.words,
+                lines: contents.lines,
+            }
+        }
     }
 }
 

@@ -170,15 +170,19 @@ pub extern "C" fn mus_judge(
             upper_limit: 0,
             verdict: 0,
         },
-        JudgeAnswer::Judged(judgement) => JudgeResult {
-            refusal: 0,
-            place: 0,
-            full: judgement.projection.full,
-            sampled: judgement.projection.sampled,
-            m: judgement.projection.m,
-            precision: judgement.precision,
-            upper_limit: judgement.upper_limit,
-            verdict: verdict_number(judgement.verdict),
-        },
+        JudgeAnswer::Judged(judgement) => {
+            let projection = judgement.projection;
+            let verdict = judgement.verdict;
+            JudgeResult {
+                refusal: 0,
+                place: 0,
+                full: projection.full,
+                sampled: projection.sampled,
+                m: projection.m,
+                precision: judgement.precision,
+                upper_limit: judgement.upper_limit,
+                verdict: verdict_number(verdict),
+            }
+        }
     }
 }

@@ -87,6 +87,7 @@ static void set_split_1(void) { ledger_of_rounds(1); draws = lines / 100; }
 static void set_split_3(void) { ledger_of_rounds(3); }
 static void set_split_10(void) { ledger_of_rounds(10); }
 static void set_project(void) { plain_ledger(); find_errors(20); }
+static void set_most_errors(void) { plain_ledger(); find_errors(MUS_MOST_ERRORS); }
 static void set_read(void) { longest_content(); call_write(); }
 
 static const struct row {
@@ -100,6 +101,7 @@ static const struct row {
     {"draw", plain_ledger, call_draw},
     {"project", set_project, call_project},
     {"judge", set_project, call_judge},
+    {"judge-63", set_most_errors, call_judge},
     {"read", set_read, call_read},
     {"write", longest_content, call_write},
     {"size", longest_content, call_size},

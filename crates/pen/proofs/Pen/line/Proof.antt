@@ -1,0 +1,26 @@
+-- `pen::Pen::line` meets its contract: the word, the numbers, the end of the line. Assumes nothing.
+use Rattle.pen.proofs.Writing.{_⨾_, line-parts}
+use borrow.Author.Needs.{needs}
+use Rattle.pen.proofs.Pen.line.Statement.{statement}
+use Rattle.pen.proofs.Pen.line.Tie as tie
+
+text-requires : tie.Need-text-requires
+text-requires c κs = search needs
+
+fields-requires : tie.Need-fields-requires
+fields-requires c κs = search needs
+
+byte-requires : tie.Need-byte-requires
+byte-requires c κs = search needs
+
+same-length : tie.Need-same-length
+same-length c = search needs
+
+returns : tie.Need-returns
+returns c =
+    let filled = c .before .before .before .before .before .before in
+    let opened = filled .before .before .before .before in
+    rw line-parts (opened .text .ensures ⨾ filled .fields .ensures ⨾ c .before .before .byte .ensures)
+
+pub line-spec : {M : Type 1} → statement M
+line-spec = tie.close (tie.spec text-requires fields-requires byte-requires same-length returns)

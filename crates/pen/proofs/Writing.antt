@@ -1,0 +1,121 @@
+-- Writing on a page: one text after another is one text, what a loop that writes has left to write, and that a text for which there is
+-- room stands at the start of the page. Assumes nothing.
+use Prim.Native.Nat.{ℕ, suc, _+_, _≤_, _<_}
+use mathlib.Core.Path.{_≡_, refl, sym, ap, _∙_}
+use mathlib.Core.Bool.{Bool, true, false}
+use lib.Dec.{ltb}
+use Rattle.terms.specs.Numbers.{pick}
+use Rattle.pen.specs.Text.{decimal, fields, line, more}
+use mathlib.Core.List.{List, [], _∷_, _++_, map, append-assoc}
+use native.Mathlib.Omega.{arith}
+use native.Mathlib.Numerals.{add-one}
+use borrow.Author.Tests.{lt-ltb}
+use lib.ListN.{length, getD, set, drop, length-set, length-append, drop-of-length-le}
+use lib.Seq.{sets, sets-eq, drop-cons, length-take-le}
+use Rattle.pen.specs.Page.{Page, page, put, write, Wrote, Printed}
+
+pub write-append : (p : Page) (x y : List ℕ) → write p (x ++ y) ≡ write (write p x) y
+unfolding write
+write-append p [] y = refl
+write-append p (b ∷ x) y = write-append (put p b) x y
+
+-- what is written next goes on from what was written
+infixr 50 _⨾_
+pub _⨾_ : {o o′ o″ : List ℕ} {a a′ a″ : ℕ} {x y : List ℕ} → Wrote o a x o′ a′ → Wrote o′ a′ y o″ a″ → Wrote o a (x ++ y) o″ a″
+_⨾_ {o} {o′} {o″} {a} {a′} {a″} {x} {y} u v =
+    record { same = v .same ∙ ap (λ (q : Page). write q y) (u .same) ∙ sym (write-append (page o a) x y) }
+
+pub nothing : {o : List ℕ} {a : ℕ} → Wrote o a [] o a
+unfolding write
+nothing = record { same = refl }
+
+pub length-put : (p : Page) (b : ℕ) → length (put p b .bytes) ≡ length (p .bytes)
+unfolding put
+length-put p b = go (ltb (p .at) (length (p .bytes)))
+  where
+    go : (t : Bool) → length (pick t (page (set (p .bytes) (p .at) b) (p .at + 1)) p .bytes) ≡ length (p .bytes)
+    go true = length-set (p .bytes) (p .at) b
+    go false = refl
+
+length-write : (p : Page) (x : List ℕ) → length (write p x .bytes) ≡ length (p .bytes)
+unfolding write
+length-write p [] = refl
+length-write p (b ∷ x) = length-write (put p b) x ∙ length-put p b
+
+pub length-wrote : {o o′ : List ℕ} {a a′ : ℕ} {x : List ℕ} → Wrote o a x o′ a′ → length o′ ≡ length o
+length-wrote {o} {o′} {a} {a′} {x} w = ap (λ (p : Page). length (p .bytes)) (w .same) ∙ length-write (page o a) x
+
+-- where there is room, the bytes stand in their place and nothing else has changed
+pub written : (o : List ℕ) (at : ℕ) (x : List ℕ) → at + length x ≤ length o → write (page o at) x ≡ page (sets o at x) (at + length x)
+unfolding write put
+written o at [] h = λ i. page o (zeroed i)
+  where
+    zeroed : at ≡ at + 0
+    zeroed = omega arith
+written o at (b ∷ x) h =
+    let room : at < length o = omega arith in
+    let fits : suc at + length x ≤ length (set o at b) = rw (length-set o at b) (omega arith) in
+    let next : suc at + length x ≡ at + suc (length x) = omega arith in
+    rw (lt-ltb at (length o) room, add-one at) (written (set o at b) (suc at) x fits ∙ ap (λ (n : ℕ). page (sets (set o at b) (suc at) x) n) next)
+
+pub written-front : (o x : List ℕ) → length x ≤ length o → write (page o 0) x ≡ page (x ++ drop (length x) o) (length x)
+written-front o x h =
+    let none : 0 + length x ≡ length x = omega arith in
+    let room : 0 + length x ≤ length o = omega arith in
+    rw none at (written o 0 x room ∙ ap (λ (l : List ℕ). page l (0 + length x)) (sets-eq x o 0 room))
+
+-- a loop that writes: `rest` is left to write, and writing it gives the whole
+pub record Left (old : List ℕ) (at : ℕ) (text new : List ℕ) (next : ℕ) (rest : List ℕ) : Type 0 where
+  pub kept : length new ≡ length old
+  pub same : write (page new next) rest ≡ write (page old at) text
+
+pub left-all : {o : List ℕ} {a : ℕ} {text : List ℕ} → Left o a text o a text
+left-all = record { kept = refl; same = refl }
+
+pub left-more : {o o′ o″ : List ℕ} {a a′ a″ : ℕ} {text x rest rest′ : List ℕ} → Left o a text o′ a′ rest → rest ≡ x ++ rest′
+    → Wrote o′ a′ x o″ a″ → Left o a text o″ a″ rest′
+left-more {o} {o′} {o″} {a} {a′} {a″} {text} {x} {rest} {rest′} l e w =
+    record {
+      kept = length-wrote w ∙ l .kept;
+      same = ap (λ (q : Page). write q rest′) (w .same) ∙ sym (write-append (page o′ a′) x rest′) ∙ ap (λ (y : List ℕ). write (page o′ a′) y) (sym e) ∙ l .same;
+    }
+
+pub left-none : {o o′ : List ℕ} {a a′ : ℕ} {text rest : List ℕ} → Left o a text o′ a′ rest → rest ≡ [] → Wrote o a text o′ a′
+unfolding write
+left-none {o} {o′} {a} {a′} {text} {rest} l e = record { same = ap (λ (y : List ℕ). write (page o′ a′) y) (sym e) ∙ l .same }
+
+-- the rests of the loops over bytes and over numbers
+pub bytes-more : (l : List ℕ) (i : ℕ) → i < length l → drop i l ≡ (getD l i 0 ∷ []) ++ drop (i + 1) l
+bytes-more l i h = rw (add-one i) (drop-cons l i 0 h)
+
+pub bytes-none : (l : List ℕ) (i : ℕ) → length l ≤ i → drop i l ≡ []
+bytes-none l i h = drop-of-length-le l h
+
+pub fields-more : (l : List ℕ) (i : ℕ) → i < length l → fields (drop i l) ≡ (32 ∷ decimal (getD l i 0)) ++ fields (drop (i + 1) l)
+unfolding fields
+fields-more l i h = rw (add-one i, drop-cons l i 0 h) refl
+
+pub fields-none : (l : List ℕ) (i : ℕ) → length l ≤ i → fields (drop i l) ≡ []
+unfolding fields
+fields-none l i h = rw (drop-of-length-le l h) refl
+
+pub line-parts : (w : List ℕ) (ns : List ℕ) → line (w ∷ map decimal ns) ≡ w ++ (fields ns ++ (10 ∷ []))
+unfolding fields
+line-parts w ns = ap (λ (l : List ℕ). w ++ l) (go ns)
+  where
+    go : (ns : List ℕ) → more (map decimal ns) ≡ fields ns ++ (10 ∷ [])
+    go [] = refl
+    go (n ∷ ns) = ap (λ (l : List ℕ). 32 ∷ l) (ap (λ (l : List ℕ). decimal n ++ l) (go ns) ∙ sym (append-assoc (decimal n) (fields ns) (10 ∷ [])))
+
+-- the same text, otherwise said
+pub as-text : {o o′ : List ℕ} {a a′ : ℕ} {x y : List ℕ} → y ≡ x → Wrote o a x o′ a′ → Wrote o a y o′ a′
+as-text {o} {o′} {a} {a′} e w = rw e w
+
+-- with enough room, from the start of the page
+pub printed : (text old : List ℕ) (r : ℕ) (new : List ℕ) → length text ≤ length old → Wrote old 0 text new r → Printed text old r new
+printed text old r new h w =
+    let whole = w .same ∙ written-front old text h in
+    let at : r ≡ length text = ap (λ (p : Page). p .at) whole in
+    let here : new ≡ text ++ drop (length text) old = ap (λ (p : Page). p .bytes) whole in
+    let room : r ≤ length new = rw (at, here, length-append text (drop (length text) old)) (omega arith) in
+    record { counted = at; whole = here; within = room; front = sym (length-take-le r new room) }

@@ -1,0 +1,31 @@
+-- Texts as bytes: a number in decimal, a line of words. These are definitions: nothing is assumed.
+use Prim.Native.Nat.{ℕ, zero, suc, _+_, _/_, _%_}
+use mathlib.Core.List.{List, [], _∷_, _++_}
+use lib.Dec.{ltb}
+use Rattle.terms.specs.Numbers.{pick}
+
+-- the ASCII digit of a number below 10
+abbrev pub digit : ℕ → ℕ
+digit d = 48 + d
+
+-- n in decimal: the digits of n / 10, where there are any, and the last digit. The first argument only bounds the recursion.
+unfoldable pub decimalIn : ℕ → ℕ → List ℕ
+decimalIn zero n = digit n ∷ []
+decimalIn (suc k) n = let front = decimalIn k (n / 10) in pick (ltb n 10) (digit n ∷ []) (front ++ (digit (n % 10) ∷ []))
+
+unfoldable pub decimal : ℕ → List ℕ
+decimal n = decimalIn n n
+
+-- words joined by one space and ended by a newline
+abbrev pub more : List (List ℕ) → List ℕ
+more [] = 10 ∷ []
+more (w ∷ ws) = 32 ∷ (w ++ more ws)
+
+abbrev pub line : List (List ℕ) → List ℕ
+line [] = 10 ∷ []
+line (w ∷ ws) = w ++ more ws
+
+-- numbers, each after a space
+unfoldable pub fields : List ℕ → List ℕ
+fields [] = []
+fields (n ∷ ns) = (32 ∷ decimal n) ++ fields ns

@@ -38,15 +38,15 @@ module _ (b : ℕ) (l : List ℕ) where
   unfolding goesOn
   off-field e = run-no Field (ap not e)
 
-  fields-blank : blank b ≡ true → fieldsOf (b ∷ l) ≡ fieldsOf l
+  pub fields-blank : blank b ≡ true → fieldsOf (b ∷ l) ≡ fieldsOf l
   unfolding fieldsOf
   fields-blank e = simp e
 
-  fields-on : blank b ≡ false → opens l ≡ true → fieldsOf (b ∷ l) ≡ onto b (fieldsOf l)
+  pub fields-on : blank b ≡ false → opens l ≡ true → fieldsOf (b ∷ l) ≡ onto b (fieldsOf l)
   unfolding fieldsOf
   fields-on e o = simp (e, o)
 
-  fields-off : blank b ≡ false → opens l ≡ false → fieldsOf (b ∷ l) ≡ (b ∷ []) ∷ fieldsOf l
+  pub fields-off : blank b ≡ false → opens l ≡ false → fieldsOf (b ∷ l) ≡ (b ∷ []) ∷ fieldsOf l
   unfolding fieldsOf
   fields-off e o = simp (e, o)
 
@@ -60,7 +60,7 @@ skipped (b ∷ l) = go (blank b) refl (skipped l)
     go true e again = ap (λ (n : ℕ). fieldsOf (drop n (b ∷ l))) (on-blank b l e) ∙ again ∙ sym (fields-blank b l e)
     go false e again = ap (λ (n : ℕ). fieldsOf (drop n (b ∷ l))) (off-blank b l e)
 
-opens-at : (b : ℕ) (l : List ℕ) → blank b ≡ false → opens (b ∷ l) ≡ true
+pub opens-at : (b : ℕ) (l : List ℕ) → blank b ≡ false → opens (b ∷ l) ≡ true
 unfolding opens
 opens-at b l e = ap not e
 

@@ -93,7 +93,7 @@ project-facts ledger n start errors p e =
 abbrev pub projectNumbers : List ℕ
 projectNumbers = drawNumbers ++ (14 ∷ 15 ∷ [])
 
-checked-gives : (item : ℕ) (ls : List Line) → Gives projectNumbers (checkedFrom item ls)
+pub checked-gives : (item : ℕ) (ls : List Line) → Gives projectNumbers (checkedFrom item ls)
 unfolding checkedFrom checkedLine
 checked-gives item [] = tt
 checked-gives item (l ∷ ls) =

@@ -4,3 +4,4 @@ pub mod Fair
 pub mod Demand3
 pub mod Worked
 pub mod Unique
+pub mod Practice

@@ -1,5 +1,4 @@
 -- The contracts leave no freedom: any two results that meet one agree. Assumes nothing.
-use Prim.Native.Nat.{ℕ}
 use mathlib.Core.Path.{_≡_, refl, sym, ap, _∙_}
 use Rattle.terms.specs.declared.Refusal.{Refusal}
 use Rattle.terms.specs.Outcome.{Outcome, accepted, refusedBy}
@@ -31,7 +30,7 @@ use Rattle.judge.specs.Judge.{judgeSays}
 use Rattle.workfile.proofs.Promises.{read-once, write-once}
 use Rattle.demands.specs.Unique.{NoFreedom}
 
--- Made: an answer is the value that it accepts, or its refusal
+-- an answer holds what was accepted, or a refusal
 data Made {A R : Type 0} (value : A → R) (refusal : Refusal → R) : R → Type 0 where
   good : (a : A) → Made value refusal (value a)
   bad : (why : Refusal) → Made value refusal (refusal why)
@@ -87,16 +86,16 @@ judge-made (judge.Refused why) = bad why
 pub no-freedom : NoFreedom
 no-freedom =
     record {
-      number = λ refusal r s p q. p .answer ∙ sym (q .answer);
-      place = λ refusal r s p q. p .answer ∙ sym (q .answer);
-      level = λ percent r s p q. one-answer levelSays level.Known level.Refused (λ a. refl) (λ why. refl) level-made r s (p .answer) (q .answer);
-      ledger = λ l beside r s p q. one-answer ledgerSays ledger.Total ledger.Refused (λ a. refl) (λ why. refl) ledger-made r s (p .answer) (q .answer);
-      size = λ l total te ae r s p q. one-answer sizeSays size.Draws size.Refused (λ a. refl) (λ why. refl) size-made r s (p .answer) (q .answer);
-      split = λ l n m r s b c p q. (one-answer splitSays split.Split split.Refused (λ a. refl) (λ why. refl) split-made r s (p .answer) (q .answer), p .marked ∙ sym (q .marked));
-      start = λ J words r s p q. one-answer startSays start.Started start.Refused (λ a. refl) (λ why. refl) start-made r s (p .answer) (q .answer);
-      draw = λ l n m m₀ r s b c p q. (one-answer drawSays draw.Drawn draw.Refused (λ a. refl) (λ why. refl) draw-made r s (p .answer) (q .answer), p .marked ∙ sym (q .marked));
-      project = λ l n m errors r s p q. one-answer projectSays project.Projected project.Refused (λ a. refl) (λ why. refl) project-made r s (p .answer) (q .answer);
-      judge = λ l vs n m errors te r s p q. one-answer judgeSays judge.Judged judge.Refused (λ a. refl) (λ why. refl) judge-made r s (p .answer) (q .answer);
-      read = λ f w v e r s a b c x y z p q. read-once p q;
-      write = λ plan w v e f r s b c p q. write-once p q;
+      number = λ _ _ _ p q. p .answer ∙ sym (q .answer);
+      place = λ _ _ _ p q. p .answer ∙ sym (q .answer);
+      level = λ _ r s p q. one-answer levelSays level.Known level.Refused (λ a. refl) (λ why. refl) level-made r s (p .answer) (q .answer);
+      ledger = λ _ _ r s p q. one-answer ledgerSays ledger.Total ledger.Refused (λ a. refl) (λ why. refl) ledger-made r s (p .answer) (q .answer);
+      size = λ _ _ _ _ r s p q. one-answer sizeSays size.Draws size.Refused (λ a. refl) (λ why. refl) size-made r s (p .answer) (q .answer);
+      split = λ _ _ _ r s _ _ p q. (one-answer splitSays split.Split split.Refused (λ a. refl) (λ why. refl) split-made r s (p .answer) (q .answer), p .marked ∙ sym (q .marked));
+      start = λ _ _ r s p q. one-answer startSays start.Started start.Refused (λ a. refl) (λ why. refl) start-made r s (p .answer) (q .answer);
+      draw = λ _ _ _ _ r s _ _ p q. (one-answer drawSays draw.Drawn draw.Refused (λ a. refl) (λ why. refl) draw-made r s (p .answer) (q .answer), p .marked ∙ sym (q .marked));
+      project = λ _ _ _ _ r s p q. one-answer projectSays project.Projected project.Refused (λ a. refl) (λ why. refl) project-made r s (p .answer) (q .answer);
+      judge = λ _ _ _ _ _ _ r s p q. one-answer judgeSays judge.Judged judge.Refused (λ a. refl) (λ why. refl) judge-made r s (p .answer) (q .answer);
+      read = λ _ _ _ _ _ _ _ _ _ _ _ _ p q. read-once p q;
+      write = λ _ _ _ _ _ _ _ _ _ p q. write-once p q;
     }

@@ -24,8 +24,6 @@ use Rattle.project.specs.Project.{projectSays, projectOf}
 use Rattle.judge.specs.declared.JudgeAnswer.{JudgeAnswer}
 use Rattle.judge.specs.Judge.{judgeSays, judgeOf}
 use Rattle.workfile.specs.declared.Plan.{Plan}
-use Rattle.workfile.specs.declared.ReadAnswer.{ReadAnswer}
-use Rattle.workfile.specs.declared.WriteAnswer.{WriteAnswer}
 use Rattle.workfile.specs.Promises.{ReadPromise, WritePromise}
 
 -- Each contract: the inputs, with the lent buffers at entry, then the answer and the lent buffers at exit.

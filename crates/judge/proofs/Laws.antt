@@ -31,6 +31,7 @@ use Rattle.project.proofs.Passing.{all-passed}
 use Rattle.project.proofs.Laws.{checked-lines, project-from, projectNumbers, checked-gives}
 use Rattle.precision.specs.Precision.{precisionOf, precisionCents}
 use Rattle.precision.proofs.Rounded.{never-negative, no-interval}
+use Rattle.judge.specs.declared.Verdict.{Verdict}
 use Rattle.judge.specs.declared.Verdict.the-variants.{Below, Inconclusive, Above}
 use Rattle.judge.specs.declared.Judgement.{Judgement}
 use Rattle.judge.specs.Judge.{verdictOf, concluded, judgedLines, judgedAt, judgedFigures, outOfRange, judgedTotal, judgedLedger, judgeOf}
@@ -132,29 +133,36 @@ judge-facts percent ledger n start errors te j e =
     (λ t g. let c = after-accepted (λ figures. judgedAt level ledger start errors te (figures .interval)) (figuresFor ledger n start (length errors)) j g in
     judge-facts-at level ledger n start errors te (c .0) (c .1) percent (b .0) j (a .1) (b .1) t (c .2)) (b .2)
 
+-- a number for each verdict, by which two of them differ
+abbrev verdictNumber : Verdict → ℕ
+verdictNumber Below = 0
+verdictNumber Inconclusive = 1
+verdictNumber Above = 2
+
 -- when each verdict is given
 module _ (te projected limit : ℕ) where
-  pub above-exactly : (verdictOf te projected limit ≡ Above) ↔ (te < projected)
+  by-verdict : (P : Verdict → Type 0) → (te < projected → P Above) → (projected ≤ te → limit ≤ te → P Below) → (projected ≤ te → te < limit → P Inconclusive) →
+      P (verdictOf te projected limit)
   unfolding verdictOf
+  by-verdict P above below inconclusive =
+      by-test P (ltb te projected) (λ t. above (ltb-true _ _ t))
+      (λ t. by-test P (leb limit te) (λ u. below (ltb-false _ _ t) (leb-true _ _ u)) (λ u. inconclusive (ltb-false _ _ t) (leb-false _ _ u)))
+
+  pub above-exactly : (verdictOf te projected limit ≡ Above) ↔ (te < projected)
   above-exactly = (
-    by-test (λ v. v ≡ Above → te < projected) (ltb te projected) (λ t e. ltb-true _ _ t)
-    (λ t. by-test (λ v. v ≡ Above → te < projected) (leb limit te) (λ u e. let z : _≡_ {A = ℕ} 0 1 = cc in absurd (omega arith)) (λ u e. let z : _≡_ {A = ℕ} 0 1 = cc in absurd (omega arith))),
+    by-verdict (λ v. v ≡ Above → te < projected) (λ h e. h) (λ h l e. omega (arith, ap verdictNumber e)) (λ h l e. omega (arith, ap verdictNumber e)),
     λ h. sym (is-above te projected limit h),
   )
 
   pub below-exactly : (verdictOf te projected limit ≡ Below) ↔ ((projected ≤ te) × (limit ≤ te))
-  unfolding verdictOf
   below-exactly = (
-    by-test (λ v. v ≡ Below → (projected ≤ te) × (limit ≤ te)) (ltb te projected) (λ t e. let z : _≡_ {A = ℕ} 0 1 = cc in absurd (omega arith))
-    (λ t. by-test (λ v. v ≡ Below → (projected ≤ te) × (limit ≤ te)) (leb limit te) (λ u e. (ltb-false _ _ t, leb-true _ _ u)) (λ u e. let z : _≡_ {A = ℕ} 0 1 = cc in absurd (omega arith))),
+    by-verdict (λ v. v ≡ Below → (projected ≤ te) × (limit ≤ te)) (λ h e. omega (arith, ap verdictNumber e)) (λ h l e. (h, l)) (λ h l e. omega (arith, ap verdictNumber e)),
     λ h. sym (is-below te projected limit (h .0) (h .1)),
   )
 
   pub inconclusive-exactly : (verdictOf te projected limit ≡ Inconclusive) ↔ ((projected ≤ te) × (te < limit))
-  unfolding verdictOf
   inconclusive-exactly = (
-    by-test (λ v. v ≡ Inconclusive → (projected ≤ te) × (te < limit)) (ltb te projected) (λ t e. let z : _≡_ {A = ℕ} 0 1 = cc in absurd (omega arith))
-    (λ t. by-test (λ v. v ≡ Inconclusive → (projected ≤ te) × (te < limit)) (leb limit te) (λ u e. let z : _≡_ {A = ℕ} 0 1 = cc in absurd (omega arith)) (λ u e. (ltb-false _ _ t, leb-false _ _ u))),
+    by-verdict (λ v. v ≡ Inconclusive → (projected ≤ te) × (te < limit)) (λ h e. omega (arith, ap verdictNumber e)) (λ h l e. omega (arith, ap verdictNumber e)) (λ h l e. (h, l)),
     λ h. sym (is-inconclusive te projected limit (h .0) (h .1)),
   )
 

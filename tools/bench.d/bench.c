@@ -48,6 +48,25 @@ static void ledger_of_rounds(unsigned rounds)
     }
 }
 
+/* A ledger that needs many rounds: made from its last line backwards, where each round's lines are the least that the round before
+ * leaves alone. */
+static void deep_ledger(void)
+{
+    uint64_t added = 1, former = 1;
+    ledger[0] = lines = draws = 1;
+    for (;;) {
+        uint64_t more = (draws + 1) / 2, value = added / draws + 1, least = ((draws + more) * former - added + more - 1) / more;
+        if (value < former) value = former;
+        if (value < least) value = least;
+        while (value <= (added + more * value) / (draws + more)) value++;
+        if (lines + more > MOST || added + more * value > MUS_MOST_TOTAL) return;
+        for (uint64_t i = 0; i < more; i++) ledger[lines++] = value;
+        added += more * value;
+        draws += more;
+        former = value;
+    }
+}
+
 /* So many of the drawn lines have an error. */
 static void find_errors(unsigned count)
 {
@@ -87,6 +106,7 @@ static void set_split_1(void) { ledger_of_rounds(1); draws = lines / 100; }
 static void set_split_3(void) { ledger_of_rounds(3); }
 static void set_split_10(void) { ledger_of_rounds(10); }
 static void set_project(void) { plain_ledger(); find_errors(20); }
+static void set_most_errors(void) { plain_ledger(); find_errors(MUS_MOST_ERRORS); }
 static void set_read(void) { longest_content(); call_write(); }
 
 static const struct row {
@@ -97,9 +117,11 @@ static const struct row {
     {"split-1", set_split_1, call_split},
     {"split-3", set_split_3, call_split},
     {"split-10", set_split_10, call_split},
+    {"split-deep", deep_ledger, call_split},
     {"draw", plain_ledger, call_draw},
     {"project", set_project, call_project},
     {"judge", set_project, call_judge},
+    {"judge-63", set_most_errors, call_judge},
     {"read", set_read, call_read},
     {"write", longest_content, call_write},
     {"size", longest_content, call_size},
@@ -133,7 +155,7 @@ static uint64_t written_below(void (*call)(void))
         : : "r"(stack + STACK), "r"(call)
         : "rbx", "rax", "rcx", "rdx", "rsi", "rdi", "r8", "r9", "r10", "r11", "memory", "cc");
     while (untouched < STACK && stack[untouched] == 0xA5) untouched++;
-    return STACK - untouched;
+    return STACK - untouched / 8 * 8;
 }
 
 int main(int argc, char **argv)

@@ -18,6 +18,9 @@ ghost use Rattle.sheet.specs.Sheet.{stepsText, sheetText, longestText, S
 // No text is longer.
 pub const LONGEST_TEXT: usize = 184_721;
 
+// The text of an input is decided by so many of its first bytes (`first-bytes` of proofs/FirstBytes.antt).
+pub const DECIDING_BYTES: usize = workfile::LONGEST_FILE + 1;
+
 // The plan, with the ledger's total and the number of draws.
 pub struct Planned {
     pub level: u8,

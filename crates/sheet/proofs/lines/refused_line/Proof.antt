@@ -1,39 +1,42 @@
+-- `sheet::lines::refused_line` meets its contract. Assumes nothing.
+use Rattle.terms.specs.Refusals.{number, place}
+use Rattle.pen.proofs.Lengths.{Small}
+use Rattle.sheet.proofs.Room.{refused-short}
 use borrow.Author.Needs.{needs}
 use Rattle.sheet.proofs.lines.refused_line.Statement.{statement}
 use Rattle.sheet.proofs.lines.refused_line.Tie as tie
-use Rattle.sheet.proofs.lines.refused_line.Reads as reads
-use Rattle.sheet.proofs.lines.refused_line.Lts as lts
-use Rattle.pen.proofs.Pen.line.Reads as line-reads
-use Rattle.terms.proofs.number_of.Reads as number-of-reads
-use Rattle.terms.proofs.place_of.Reads as place-of-reads
 
--- src/lines.rt:111:20
 number-of-requires : tie.Need-number-of-requires
 number-of-requires c κs = search needs
 
--- src/lines.rt:111:43
 place-of-requires : tie.Need-place-of-requires
 place-of-requires c κs = search needs
 
--- src/lines.rt:112:20
 slice-aggregate-line : tie.Need-slice-aggregate-line
 slice-aggregate-line c = search needs
 
--- src/lines.rt:112:32
 slice-aggregate-line-2 : tie.Need-slice-aggregate-line-2
 slice-aggregate-line-2 c = search needs
 
--- src/lines.rt:112:5
 line-requires : tie.Need-line-requires
 line-requires c κs = search needs
 
--- src/lines.rt:107:1
 same-length : tie.Need-same-length
 same-length c = search needs
 
--- src/lines.rt:107:1
+small-number : (c : tie.After-number-of) → Small (c .number-of .result)
+small-number c = search needs
+
+small-place : (c : tie.After-place-of) → Small (c .place-of .result)
+small-place c = search needs
+
 returns : tie.Need-returns
-returns c = ?
+returns c =
+    let placed = c .before .before .before .before .before .before in
+    let numbered = placed .before in (
+      rw (placed .place-of .ensures, numbered .number-of .ensures) at (c .before .before .line .ensures),
+      refused-short (number (numbered .before .before .args .why)) (place (numbered .before .before .args .why)) (rw (numbered .number-of .ensures) at (small-number numbered)) (rw (placed .place-of .ensures) at (small-place placed)),
+    )
 
 pub refused-line-spec : {M : Type 1} → statement M
 refused-line-spec =

@@ -1,34 +1,28 @@
+-- `sheet::steps::answers` meets its contract: 1, or what follows at a known level. Assumes nothing.
+use mathlib.Core.Path.{_≡_, sym, ap, _∙_}
+use Rattle.factors.specs.Levels.{levelSays}
+use Rattle.sheet.proofs.Following.{from-level}
 use borrow.Author.Needs.{needs}
 use Rattle.sheet.proofs.steps.answers.Statement.{statement}
 use Rattle.sheet.proofs.steps.answers.Tie as tie
-use Rattle.sheet.proofs.steps.answers.Reads as reads
-use Rattle.sheet.proofs.steps.answers.Lts as lts
-use Rattle.factors.proofs.level_of.Reads as level-of-reads
-use Rattle.sheet.proofs.steps.totalled.Reads as totalled-reads
 
--- src/steps.rt:85:11
 level-of-requires : tie.Need-level-of-requires
 level-of-requires c κs = search needs
 
--- src/steps.rt:86:30
 enum-known-why : tie.Need-enum-known-why
 enum-known-why c = search needs
 
--- src/steps.rt:87:34
 enum-told : tie.Need-enum-told
 enum-told c = search needs
 
--- src/steps.rt:87:34
 totalled-requires : tie.Need-totalled-requires
 totalled-requires c κs = search needs
 
--- src/steps.rt:82:1
 returns : tie.Need-returns
-returns c = ?
+returns c = from-level _ _ _ _ (sym (ap levelSays (c .before .why .given .1)) ∙ c .before .before .before .level-of .ensures)
 
--- src/steps.rt:82:1
 returns-2 : tie.Need-returns-2
-returns-2 c = ?
+returns-2 c = c .totalled .ensures ∙ from-level _ _ _ _ (sym (ap levelSays (c .before .enum-told .given .1)) ∙ c .before .before .before .level-of .ensures)
 
 pub answers-spec : {M : Type 1} → statement M
 answers-spec =

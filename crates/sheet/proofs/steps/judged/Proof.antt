@@ -1,29 +1,26 @@
+-- `sheet::steps::judged` meets its contract: the judgement's refusal, or all answers. Assumes nothing.
+use mathlib.Core.Path.{_≡_, sym, ap, _∙_}
+use mathlib.Core.List.{[]}
+use Rattle.judge.specs.Judge.{judgeSays}
+use Rattle.sheet.proofs.Following.{from-judge}
 use borrow.Author.Needs.{needs}
 use Rattle.sheet.proofs.steps.judged.Statement.{statement}
 use Rattle.sheet.proofs.steps.judged.Tie as tie
-use Rattle.sheet.proofs.steps.judged.Reads as reads
-use Rattle.sheet.proofs.steps.judged.Lts as lts
-use Rattle.judge.proofs.judge.Reads as judge-reads
 
--- src/steps.rt:21:11
 judge-requires : tie.Need-judge-requires
 judge-requires c κs = search needs
 
--- src/steps.rt:22:30
 enum-known-why : tie.Need-enum-known-why
 enum-known-why c = search needs
 
--- src/steps.rt:23:29
 enum-known-judgement : tie.Need-enum-known-judgement
 enum-known-judgement c = search needs
 
--- src/steps.rt:18:1
 returns : tie.Need-returns
-returns c = ?
+returns c = from-judge _ [] _ _ _ _ (sym (ap judgeSays (c .before .why .given .1)) ∙ c .before .before .before .judge .ensures)
 
--- src/steps.rt:18:1
 returns-2 : tie.Need-returns-2
-returns-2 c = ?
+returns-2 c = from-judge _ [] _ _ _ _ (sym (ap judgeSays (c .before .judgement .given .1)) ∙ c .before .before .before .judge .ensures)
 
 pub judged-spec : {M : Type 1} → statement M
 judged-spec =

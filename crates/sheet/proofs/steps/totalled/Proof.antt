@@ -1,34 +1,28 @@
+-- `sheet::steps::totalled` meets its contract: the ledger's refusal, or what follows from its total. Assumes nothing.
+use mathlib.Core.Path.{_≡_, sym, ap, _∙_}
+use Rattle.ledger.specs.Ledger.{ledgerSays}
+use Rattle.sheet.proofs.Following.{from-ledger}
 use borrow.Author.Needs.{needs}
 use Rattle.sheet.proofs.steps.totalled.Statement.{statement}
 use Rattle.sheet.proofs.steps.totalled.Tie as tie
-use Rattle.sheet.proofs.steps.totalled.Reads as reads
-use Rattle.sheet.proofs.steps.totalled.Lts as lts
-use Rattle.ledger.proofs.judge_ledger.Reads as judge-ledger-reads
-use Rattle.sheet.proofs.steps.sized.Reads as sized-reads
 
--- src/steps.rt:75:11
 judge-ledger-requires : tie.Need-judge-ledger-requires
 judge-ledger-requires c κs = search needs
 
--- src/steps.rt:76:31
 enum-known-why : tie.Need-enum-known-why
 enum-known-why c = search needs
 
--- src/steps.rt:77:29
 enum-known-total : tie.Need-enum-known-total
 enum-known-total c = search needs
 
--- src/steps.rt:77:39
 sized-requires : tie.Need-sized-requires
 sized-requires c κs = search needs
 
--- src/steps.rt:72:1
 returns : tie.Need-returns
-returns c = ?
+returns c = from-ledger _ _ _ _ (sym (ap ledgerSays (c .before .why .given .1)) ∙ c .before .before .before .judge-ledger .ensures)
 
--- src/steps.rt:72:1
 returns-2 : tie.Need-returns-2
-returns-2 c = ?
+returns-2 c = c .sized .ensures ∙ from-ledger _ _ _ _ (sym (ap ledgerSays (c .before .before .total .given .1)) ∙ c .before .before .before .before .judge-ledger .ensures)
 
 pub totalled-spec : {M : Type 1} → statement M
 totalled-spec =

@@ -6,7 +6,7 @@ use notation::ParseAnswer;
 use workfile::WriteAnswer;
 
 // A text longer than this is not taken.
-const MOST_TEXT: usize = 1_000_000;
+const MOST_TEXT: usize = 500_000;
 
 fn put_fault(fault: Fault) {
     let mut page = [0u8; 80];
@@ -17,7 +17,15 @@ fn put_fault(fault: Fault) {
 // The file of a content, written at once.
 fn put_file(contents: Contents, words: &[u64], values: &[u64], errors: &[u64]) {
     let mut file = [0u8; 45_663];
-    match writer::write(contents.level, contents.te, contents.ae, words, values, errors, &mut file) {
+    match writer::write(
+        contents.level,
+        contents.te,
+        contents.ae,
+        words,
+        values,
+        errors,
+        &mut file,
+    ) {
         WriteAnswer::Written(length) => {
             let end = length as usize;
             io::write_all(1, &file[..end]);
@@ -37,16 +45,21 @@ fn pack(text: &[u8]) {
         ParseAnswer::Parsed(contents) => {
             let count = contents.words;
             let lines = contents.lines;
-            put_file(contents, &words[..count], &values[..lines], &errors[..lines]);
+            put_file(
+                contents,
+                &words[..count],
+                &values[..lines],
+                &errors[..lines],
+            );
         }
     }
 }
 
 fn main() {
-    let mut text = [0u8; 1_000_001];
+    let mut text = [0u8; 500_001];
     let length = io::read_full(0, &mut text);
     if length > MOST_TEXT {
-        io::write_all(1, b"the text is longer than 1000000 bytes\n");
+        io::write_all(1, b"the text is longer than 500000 bytes\n");
         return;
     }
     pack(&text[..length]);

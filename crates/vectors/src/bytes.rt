@@ -39,7 +39,11 @@ fn change(input: &[u8], at: usize, file: &mut [u8]) {
     let mut place = on(input, at, 2);
     let mut i: u64 = 0;
     while i < changes {
-        put(file, four(input, place) as usize, byte_at(input, on(input, place, 4)));
+        put(
+            file,
+            four(input, place) as usize,
+            byte_at(input, on(input, place, 4)),
+        );
         place = on(input, place, 5);
         i += 1;
     }

@@ -94,23 +94,31 @@ fn change(input: &[u8], at: usize, list: &mut [u64]) {
     let mut place = on(input, at, 2);
     let mut i: u64 = 0;
     while i < changes {
-        put(list, four(input, place) as usize, eight(input, on(input, place, 4)));
+        put(
+            list,
+            four(input, place) as usize,
+            eight(input, on(input, place, 4)),
+        );
         place = on(input, place, 12);
         i += 1;
     }
 }
 
-// The list that stands at a place.
-pub fn fill(input: &[u8], at: usize, list: &mut [u64]) {
-    let form = byte_at(input, at);
-    if form == 0 {
-        fill_listed(input, on(input, at, 5), list);
-        return;
-    }
-    if form == 1 {
+// The entries of form 1 or 2, before the changes.
+fn fill_by_rule(input: &[u8], at: usize, list: &mut [u64]) {
+    if byte_at(input, at) == 1 {
         fill_generated(input, at, list);
     } else {
         fill_equal(eight(input, on(input, at, 5)), list);
     }
+}
+
+// The list that stands at a place.
+pub fn fill(input: &[u8], at: usize, list: &mut [u64]) {
+    if byte_at(input, at) == 0 {
+        fill_listed(input, on(input, at, 5), list);
+        return;
+    }
+    fill_by_rule(input, at, list);
     change(input, changes_at(input, at), list);
 }

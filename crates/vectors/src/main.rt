@@ -16,24 +16,29 @@ fn write_line(page: &[u8], pen: Pen) {
     }
 }
 
-// The cases of steps 1 to 6, whose numbers are 1 to 6.
-fn step_case(
+// One case, by the number of its operation; the answer goes on the page.
+fn answer_case(
     input: &[u8],
     at: usize,
     ledger: &mut [u64],
     errors: &mut [u64],
+    words: &mut [u64],
     marks: &mut [u8],
+    file: &mut [u8],
+    out: &mut [u8],
     pen: Pen,
     page: &mut [u8],
 ) -> Done {
-    let after = input::on(input, at, 1);
+    let fields = input::on(input, at, 1);
     match input::byte_at(input, at) {
-        1 => cases::size(input, after, pen, page),
-        2 => cases::split(input, after, ledger, marks, pen, page),
-        3 => cases::start(input, after, ledger, pen, page),
-        4 => cases::draw(input, after, ledger, marks, pen, page),
-        5 => cases::project(input, after, ledger, errors, pen, page),
-        _ => cases::judge(input, after, ledger, errors, pen, page),
+        1 => cases::size(input, fields, pen, page),
+        2 => cases::split(input, fields, ledger, marks, pen, page),
+        3 => cases::start(input, fields, words, pen, page),
+        4 => cases::draw(input, fields, ledger, marks, pen, page),
+        5 => cases::project(input, fields, ledger, errors, pen, page),
+        6 => cases::judge(input, fields, ledger, errors, pen, page),
+        7 => cases::read(input, fields, out, file, words, ledger, errors, pen, page),
+        _ => cases::write(input, fields, words, ledger, errors, out, pen, page),
     }
 }
 
@@ -49,18 +54,24 @@ fn run_case(
     file: &mut [u8],
     out: &mut [u8],
 ) -> usize {
-    let mut space = [0u8; 256];
-    let page: &mut [u8] = &mut space;
+    let mut page = [0u8; 256];
     let start = Pen { at: 0 };
-    let pen = start.number(page, number);
-    let after = input::on(input, at, 1);
-    let done = match input::byte_at(input, at) {
-        7 => cases::read(input, after, out, file, words, ledger, errors, pen, page),
-        8 => cases::write(input, after, words, ledger, errors, out, pen, page),
-        _ => step_case(input, at, ledger, errors, marks, pen, page),
-    };
-    let ended = done.pen.byte(page, 10);
-    write_line(page, ended);
+    let opened = start.number(&mut page, number);
+    let done = answer_case(
+        input,
+        at,
+        ledger,
+        errors,
+        words,
+        marks,
+        file,
+        out,
+        opened,
+        &mut page,
+    );
+    let answered = done.pen;
+    let ended = answered.byte(&mut page, 10);
+    write_line(&page, ended);
     done.next
 }
 
@@ -80,7 +91,17 @@ fn run(
         if input::byte_at(input, at) == 0 {
             return;
         }
-        at = run_case(input, at, number as u64, ledger, errors, words, marks, file, out);
+        at = run_case(
+            input,
+            at,
+            number as u64,
+            ledger,
+            errors,
+            words,
+            marks,
+            file,
+            out,
+        );
         number += 1;
     }
 }

@@ -1,77 +1,55 @@
+-- `vectors::cases::split` is safe and ends: each lent part has the length that was asked for. Assumes nothing.
 use borrow.Author.Needs.{needs}
+use mathlib.Core.Path.{sym}
+use lib.Seq.{length-take-le}
 use Rattle.vectors.proofs.cases.split.Statement.{statement}
 use Rattle.vectors.proofs.cases.split.Tie as tie
-use Rattle.vectors.proofs.cases.split.Reads as reads
-use Rattle.vectors.proofs.cases.split.Lts as lts
-use Rattle.vectors.proofs.cases.split_on.Reads as split-on-reads
-use Rattle.vectors.proofs.input.eight.Reads as eight-reads
-use Rattle.vectors.proofs.input.four.Reads as four-reads
-use Rattle.vectors.proofs.input.on.Reads as on-reads
-use Rattle.vectors.proofs.lists.count.Reads as count-reads
-use Rattle.vectors.proofs.lists.end.Reads as end-reads
-use Rattle.vectors.proofs.rooms.length_of.Reads as length-of-reads
 
--- src/cases.rt:54:9
 end-requires : tie.Need-end-requires
 end-requires c κs = search needs
 
--- src/cases.rt:55:9
 eight-requires : tie.Need-eight-requires
 eight-requires c κs = search needs
 
--- src/cases.rt:56:9
 count-requires : tie.Need-count-requires
 count-requires c κs = search needs
 
--- src/cases.rt:57:47
 on-requires : tie.Need-on-requires
 on-requires c κs = search needs
 
--- src/cases.rt:57:35
 four-requires : tie.Need-four-requires
 four-requires c κs = search needs
 
--- src/cases.rt:57:9
 length-of-requires : tie.Need-length-of-requires
 length-of-requires c κs = search needs
 
--- src/cases.rt:58:38
 slice-relend-prefix-split-on : tie.Need-slice-relend-prefix-split-on
 slice-relend-prefix-split-on c = search needs
 
--- src/cases.rt:58:38
 slice-aggregate-split-on : tie.Need-slice-aggregate-split-on
-slice-aggregate-split-on c = ?
+slice-aggregate-split-on c = sym (length-take-le _ _ (slice-relend-prefix-split-on (c .before)))
 
--- src/cases.rt:58:60
 slice-relend-prefix-split-on-2 : tie.Need-slice-relend-prefix-split-on-2
 slice-relend-prefix-split-on-2 c = search needs
 
--- src/cases.rt:58:60
 slice-aggregate-split-on-2 : tie.Need-slice-aggregate-split-on-2
-slice-aggregate-split-on-2 c = ?
+slice-aggregate-split-on-2 c = sym (length-take-le _ _ (slice-relend-prefix-split-on-2 (c .before)))
 
--- src/cases.rt:58:9
 split-on-requires : tie.Need-split-on-requires
 split-on-requires c κs = search needs
 
--- src/cases.rt:60:15
 on-requires-2 : tie.Need-on-requires-2
 on-requires-2 c κs = search needs
 
--- src/cases.rt:53:1
 same-length : tie.Need-same-length
 same-length c = search needs
 
--- src/cases.rt:53:1
 same-length-2 : tie.Need-same-length-2
 same-length-2 c = search needs
 
--- src/cases.rt:53:1
 same-length-3 : tie.Need-same-length-3
 same-length-3 c = search needs
 
--- src/cases.rt:53:1
 returns : tie.Need-returns
 returns c = search needs
 

@@ -1,26 +1,31 @@
+-- `vectors::lists::generated` is safe: the part is at most `most`, so that its product with the scale fits, and the sum too. Assumes nothing.
 use borrow.Author.Needs.{needs}
+use native.Mathlib.Omega.{arith}
+use native.Mathlib.Nat.{mod-lt, mul-le-mul}
+use Prim.Native.Nat.{ℕ, _*_, _/_, _%_, _+_, _<_, _≤_}
 use Rattle.vectors.proofs.lists.generated.Statement.{statement}
 use Rattle.vectors.proofs.lists.generated.Tie as tie
-use Rattle.vectors.proofs.lists.generated.Reads as reads
-use Rattle.vectors.proofs.lists.generated.Lts as lts
 
--- src/lists.rt:73:27
+part-fits : (x most scale : ℕ) → most < 4294967296 → scale < 4294967296 → x / 256 % (most + 1) * scale ≤ 4294967295 * 4294967295
+part-fits x most scale m s =
+    mul-le-mul {n₂ = 4294967295} {m₂ = 4294967295} (omega (arith, mod-lt (x / 256) {m = most + 1} (omega arith))) (omega arith)
+
 add-part : tie.Need-add-part
 add-part c = search needs
 
--- src/lists.rt:73:16
 rem-part : tie.Need-rem-part
 rem-part c = search needs
 
--- src/lists.rt:74:11
 mul-result : tie.Need-mul-result
-mul-result c = ?
+mul-result c =
+    let a = c .args in
+    omega (arith, part-fits (a .x) (a .most) (a .scale) (omega arith) (omega arith))
 
--- src/lists.rt:74:5
 add-result : tie.Need-add-result
-add-result c = ?
+add-result c =
+    let a = c .args in
+    omega (arith, part-fits (a .x) (a .most) (a .scale) (omega arith) (omega arith))
 
--- src/lists.rt:70:1
 returns : tie.Need-returns
 returns c = search needs
 

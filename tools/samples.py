@@ -5,6 +5,7 @@
     python3 tools/samples.py check           compares the stored ones, and the figures told in large-grants.txt
     python3 tools/samples.py pack FILE       writes the working file of a sample to standard output
     python3 tools/samples.py run COMMAND ..  runs a desk program on every sample and compares
+    python3 tools/samples.py make COMMAND .. runs a program that makes the working file of a text, and compares
 
 The notation has one record a line: P level TE AE, W word, L book value, E line error. Blank lines and lines that open
 with # are passed over. Z is made. A sample NAME.hex holds the bytes themselves, for files that no text can give.
@@ -127,6 +128,13 @@ def run(command):
             sys.exit(f"samples/{path.name}: found\n{found.decode(errors='replace')}")
 
 
+def make(command):
+    for path in SAMPLES.glob("*.txt"):
+        found = subprocess.run(command, input=path.read_bytes(), stdout=subprocess.PIPE).stdout
+        if found != file_of(path):
+            sys.exit(f"samples/{path.name}: another working file was made")
+
+
 def main(arguments):
     if arguments == ["write"]:
         write()
@@ -137,6 +145,8 @@ def main(arguments):
         return
     elif arguments[:1] == ["run"] and len(arguments) > 1:
         run(arguments[1:])
+    elif arguments[:1] == ["make"] and len(arguments) > 1:
+        make(arguments[1:])
     else:
         sys.exit(__doc__)
     print(f"{len(every_sample())} samples")

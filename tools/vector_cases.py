@@ -8,7 +8,7 @@ from vector_forms import Draw, Equal, Generated, Given, Judge, Listed, Project, 
 from vector_forms import given
 
 # Ledgers of more lines than this are left out, for a program with less room.
-LARGEST_LEDGER = 1_000_001
+LARGEST_LEDGER = 100_000
 
 MOST_WORD = 2**64 - 1
 

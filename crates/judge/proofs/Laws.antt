@@ -1,28 +1,27 @@
 -- What is known of an accepted judgement, when each verdict is given, and which refusals the judgement gives. Assumes nothing.
-use mathlib.Core.Path.{_≡_, refl, sym, ap, _∙_, subst}
-use mathlib.Core.Bool.{Bool, true, false}
+use mathlib.Core.Path.{_≡_, sym, ap, _∙_, subst}
+use mathlib.Core.Bool.{false}
 use mathlib.Core.List.{List, [], _∷_, _++_}
 use mathlib.Core.Logic.{_↔_}
 use Prim.Native.Nat.{ℕ, _+_, _≤_, _<_}
 use native.Mathlib.Omega.{arith}
-use borrow.Author.Tests.{ltb-true, ltb-false, leb-true, leb-false, eqb-true, eqb-false}
-use lib.Dec.{T, ltb, leb, eqb}
+use borrow.Author.Tests.{ltb-true, ltb-false, leb-true, leb-false, eqb-false}
+use lib.Dec.{ltb, leb, eqb}
 use lib.IntN.{pos, natAbs}
 use lib.ListN.{length}
-use Rattle.terms.specs.Outcome.{Outcome, accepted, refused, after}
-use Rattle.terms.specs.Numbers.{pick, sum, AllUpTo}
+use Rattle.terms.specs.Outcome.{accepted, after}
+use Rattle.terms.specs.Numbers.{sum, AllUpTo}
 use Rattle.terms.specs.Limits.{mostErrors}
-use Rattle.terms.proofs.Outcomes.{never, after-accepted, among, Gives, gives-after}
+use Rattle.terms.proofs.Outcomes.{never, after-accepted, Gives, gives-after, gives-among}
 use Rattle.terms.proofs.Tests.{by-test}
 use Rattle.factors.specs.declared.Level.{Level}
 use Rattle.factors.specs.Levels.{levelOf}
 use Rattle.factors.proofs.Percents.{level-gives}
 use Rattle.ledger.specs.Ledger.{ledgerOf}
-use Rattle.ledger.proofs.Laws.{good, ledger-gives-in}
+use Rattle.ledger.proofs.Laws.{good, ledgerNumbers, ledger-gives}
 use Rattle.split.specs.declared.Figures.{Figures}
 use Rattle.draw.specs.Draw.{figuresFor}
 use Rattle.draw.proofs.Laws.{start-facts, drawNumbers, figures-give}
-use Rattle.draw.proofs.MoreOutcomes.{gives-more}
 use Rattle.project.specs.declared.Line.{Line}
 use Rattle.project.specs.declared.Projection.{Projection}
 use Rattle.project.specs.Lines.{linesOf, projectionOf, amountsOf}
@@ -170,33 +169,25 @@ module _ (te projected limit : ℕ) where
 abbrev pub judgeNumbers : List ℕ
 judgeNumbers = projectNumbers ++ (1 ∷ 6 ∷ 16 ∷ [])
 
-level-among : (o : Outcome Level) → Gives (1 ∷ []) o → Gives judgeNumbers o
-level-among (accepted l) g = tt
-level-among (refused k p) g = go (eqb k 1) refl g
-  where
-    go : (b : Bool) → eqb k 1 ≡ b → T (pick b true false) → T (among k judgeNumbers)
-    go true e t = subst (λ (k : ℕ). T (among k judgeNumbers)) (sym (eqb-true k 1 e)) tt
-    go false e t = absurd t
-
 module _ (level : Level) (ledger : List ℕ) (n start : ℕ) (errors : List ℕ) (te : ℕ) where
   lines-give : (J : ℕ) → Gives judgeNumbers (judgedAt level ledger start errors te J)
   unfolding judgedAt judgedLines checkedLines
   lines-give J =
       gives-after judgeNumbers (judgedLines level te J) (checkedLines J start ledger errors)
-      (gives-more projectNumbers (1 ∷ 6 ∷ 16 ∷ []) (checkedLines J start ledger errors) (checked-gives 0 (linesOf J start ledger errors)))
+      (gives-among projectNumbers judgeNumbers tt (checkedLines J start ledger errors) (checked-gives 0 (linesOf J start ledger errors)))
       (λ good. by-test (Gives judgeNumbers) (ltb mostErrors (projectionOf good .m)) (λ t. tt) (λ t. tt))
 
   level-known-gives : Gives judgeNumbers (judgedLedger ledger n start errors te level)
   unfolding judgedLedger judgedFigures
   level-known-gives =
-      gives-after judgeNumbers (judgedTotal level ledger n start errors te) (ledgerOf ledger (length errors)) (ledger-gives-in judgeNumbers tt tt tt tt tt ledger (length errors))
+      gives-after judgeNumbers (judgedTotal level ledger n start errors te) (ledgerOf ledger (length errors)) (gives-among ledgerNumbers judgeNumbers tt (ledgerOf ledger (length errors)) (ledger-gives ledger (length errors)))
       (λ total. by-test (Gives judgeNumbers) (outOfRange te total) (λ t. tt)
       (λ t. gives-after judgeNumbers (λ figures. judgedAt level ledger start errors te (figures .interval)) (figuresFor ledger n start (length errors))
-      (gives-more drawNumbers (14 ∷ 15 ∷ 1 ∷ 6 ∷ 16 ∷ []) (figuresFor ledger n start (length errors)) (figures-give ledger n start (length errors)))
+      (gives-among drawNumbers judgeNumbers tt (figuresFor ledger n start (length errors)) (figures-give ledger n start (length errors)))
       (λ figures. lines-give (figures .interval))))
 
 pub judge-gives : (percent : ℕ) (ledger : List ℕ) (n start : ℕ) (errors : List ℕ) (te : ℕ) → Gives judgeNumbers (judgeOf percent ledger n start errors te)
 unfolding judgeOf
 judge-gives percent ledger n start errors te =
-    gives-after judgeNumbers (judgedLedger ledger n start errors te) (levelOf percent) (level-among (levelOf percent) (level-gives percent))
+    gives-after judgeNumbers (judgedLedger ledger n start errors te) (levelOf percent) (gives-among (1 ∷ []) judgeNumbers tt (levelOf percent) (level-gives percent))
     (λ level. level-known-gives level ledger n start errors te)

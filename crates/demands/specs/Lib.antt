@@ -1,2 +1,4 @@
 pub mod Starts
 pub mod Demand3
+pub mod Unique
+pub mod Practice

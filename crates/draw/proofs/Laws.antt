@@ -12,7 +12,7 @@ use lib.Dec.{T, ltb, eqb, ltb→lt}
 use lib.ListN.{length, getD}
 use Rattle.terms.specs.Outcome.{accepted}
 use Rattle.terms.specs.Numbers.{sum}
-use Rattle.terms.proofs.Outcomes.{never, after-accepted, Gives, gives-after}
+use Rattle.terms.proofs.Outcomes.{never, after-accepted, Gives, gives-after, gives-among}
 use Rattle.terms.proofs.Tests.{by-test, le-or-lt}
 use Rattle.split.specs.declared.Figures.{Figures}
 use Rattle.split.specs.Rounds.{upTo}
@@ -23,7 +23,6 @@ use Rattle.draw.specs.Row.{full, cents, rowCents, firstCent, markBy, mar
 use Rattle.draw.specs.Draw.{startFits, startIn, figuresFor, marksAt, drawOf}
 use Rattle.draw.proofs.Points.{covers-agrees}
 use Rattle.draw.proofs.Answer.{from-split, start-below}
-use Rattle.draw.proofs.MoreOutcomes.{gives-more}
 
 -- the row is as long as the sampled lines' total
 pub row-sampled : (J : ℕ) (ledger : List ℕ) → rowCents J ledger ≡ sum (upTo J ledger)
@@ -71,7 +70,7 @@ drawNumbers = splitNumbers ++ (11 ∷ [])
 pub figures-give : (ledger : List ℕ) (n start beside : ℕ) → Gives drawNumbers (figuresFor ledger n start beside)
 unfolding figuresFor
 figures-give ledger n start beside =
-    gives-after drawNumbers (startIn start) (splitOf ledger n beside) (gives-more splitNumbers (11 ∷ []) (splitOf ledger n beside) (split-gives ledger n beside))
+    gives-after drawNumbers (startIn start) (splitOf ledger n beside) (gives-among splitNumbers drawNumbers tt (splitOf ledger n beside) (split-gives ledger n beside))
     (λ f. by-test (Gives drawNumbers) (startFits start (f .interval)) (λ p. tt) (λ p. tt))
 
 pub draw-gives : (ledger : List ℕ) (n start beside : ℕ) → Gives drawNumbers (drawOf ledger n start beside)

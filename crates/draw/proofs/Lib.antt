@@ -4,6 +4,5 @@ pub mod Walk
 pub mod Row
 pub mod Marking
 pub mod Answer
-pub mod MoreOutcomes
 pub mod Laws
 pub mod Worked

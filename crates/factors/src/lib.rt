@@ -77,12 +77,18 @@ pub fn expansion(level: Level) -> u64
     }
 }
 
+fn wide(factor: u16) -> u64
+    ensures { λ r. ⌜ r ≡ factor ⌝ }
+{
+    factor as u64
+}
+
 // The reliability factor RF(k) in hundredths, and 0 past the table.
 pub fn reliability(level: Level, k: usize) -> u64
     ensures { λ r. ⌜ Reliability level k r ⌝ }
 {
     if k < 64 {
-        table::FACTORS[row(level) * 64 + k]
+        wide(table::FACTORS[row(level) * 64 + k])
     } else {
         0
     }

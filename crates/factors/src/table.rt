@@ -1,6 +1,6 @@
 // The reliability factors in hundredths: nine rows, levels 99 to 50, of sixty-four, RF(0) to RF(63).
 // Made by tools/factors, as is specs/Table.antt: neither is edited by hand.
-pub const FACTORS: [u64; 576] = [
+pub const FACTORS: [u16; 576] = [
     461,
     664,
     841,

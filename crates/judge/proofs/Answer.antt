@@ -1,5 +1,5 @@
 -- The judgement's answer from the outcomes of the steps before it, as the code meets it. Assumes nothing.
-use mathlib.Core.Path.{_≡_, refl, sym, ap, _∙_}
+use mathlib.Core.Path.{_≡_, sym, ap, _∙_}
 use mathlib.Core.List.{List}
 use Prim.Native.Nat.{ℕ, _+_, _≤_, _<_}
 use borrow.Author.Tests.{lt-ltb, le-ltb, le-leb, lt-leb, eq-eqb, ne-eqb}
@@ -9,8 +9,8 @@ use Rattle.factors.specs.declared.Level.{Level}
 use Rattle.factors.specs.Levels.{levelOf}
 use Rattle.ledger.specs.Ledger.{ledgerOf}
 use Rattle.split.specs.declared.Figures.{Figures}
-use Rattle.split.specs.Split.{figuresFrom, Totalled, splitOf}
-use Rattle.split.proofs.Facts.{from-ledger, totalled}
+use Rattle.split.specs.Split.{figuresFrom}
+use Rattle.split.proofs.Facts.{from-ledger}
 use Rattle.draw.specs.Draw.{startIn, figuresFor}
 use Rattle.draw.proofs.Answer.{from-split}
 use Rattle.project.specs.declared.Projection.{Projection}

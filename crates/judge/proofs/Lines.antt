@@ -1,14 +1,14 @@
 -- From the gathered amounts to the judgement of the lines, as `judge_lines` meets it. Assumes nothing.
 use mathlib.Core.Path.{_≡_, refl, sym, ap, _∙_, subst}
 use mathlib.Core.List.{List}
-use Prim.Native.Nat.{ℕ, _+_, _*_, _^_, _≤_, _<_}
+use Prim.Native.Nat.{ℕ, _≤_, _<_}
 use native.Mathlib.Omega.{arith}
 use borrow.Author.Tests.{lt-ltb, le-ltb}
 use lib.IntN.{pos, natAbs}
 use lib.ListN.{length, take}
 use Rattle.terms.specs.Outcome.{Outcome, accepted, refused, after}
-use Rattle.terms.specs.Numbers.{sum, AllUpTo}
-use Rattle.terms.specs.Limits.{mostTotal, mostInterval, mostErrors}
+use Rattle.terms.specs.Numbers.{AllUpTo}
+use Rattle.terms.specs.Limits.{mostErrors}
 use Rattle.terms.proofs.Outcomes.{after-accepted}
 use Rattle.factors.specs.declared.Level.{Level}
 use Rattle.draw.proofs.Row.{row-sum}
@@ -17,10 +17,9 @@ use Rattle.project.specs.declared.Projection.{Projection}
 use Rattle.project.specs.Lines.{projectionOf, amountsOf}
 use Rattle.project.specs.Project.{checkedLines, projectionAt, Ready}
 use Rattle.project.specs.Gathered.{Gathered}
-use Rattle.project.proofs.Amounts.{Amounts}
 use Rattle.project.proofs.Passing.{Passed, all-passed}
 use Rattle.precision.specs.Precision.{precisionOf, precisionCents}
-use Rattle.precision.proofs.Rounded.{never-negative, precision-most}
+use Rattle.precision.proofs.Rounded.{precision-most}
 use Rattle.judge.specs.Judge.{concluded, Conclusive, judgedLines, judgedAt}
 
 -- a refusal of the lines is the judgement's

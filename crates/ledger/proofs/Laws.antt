@@ -6,11 +6,11 @@ use Prim.Native.Nat.{ℕ, zero, suc, _+_, _≤_, _<_}
 use native.Mathlib.Omega.{arith}
 use borrow.Author.Tests.{ltb-false, eqb-true, eqb-false}
 use lib.ListN.{length}
-use lib.Dec.{T, ltb, eqb}
+use lib.Dec.{ltb, eqb}
 use Rattle.terms.specs.Outcome.{Outcome, accepted, refused, after}
 use Rattle.terms.specs.Numbers.{pick, sum}
 use Rattle.terms.specs.Limits.{mostLines, mostValue, mostTotal}
-use Rattle.terms.proofs.Outcomes.{never, after-accepted, among, Gives, gives-after}
+use Rattle.terms.proofs.Outcomes.{never, after-accepted, Gives, gives-after}
 use Rattle.terms.proofs.Tests.{by-test}
 use Rattle.ledger.specs.Ledger.{linesFrom, linesOf, someTotal, ledgerOf}
 
@@ -54,22 +54,17 @@ good l beside t =
 abbrev pub ledgerNumbers : List ℕ
 ledgerNumbers = 2 ∷ 13 ∷ 3 ∷ 4 ∷ 5 ∷ []
 
-lines-give : (numbers : List ℕ) → T (among 3 numbers) → T (among 4 numbers) → (line running : ℕ) (l : List ℕ) → Gives numbers (linesFrom line running l)
+lines-give : (line running : ℕ) (l : List ℕ) → Gives ledgerNumbers (linesFrom line running l)
 unfolding linesFrom
-lines-give numbers three four line running [] = tt
-lines-give numbers three four line running (v ∷ l) =
-    by-test (Gives numbers) (ltb mostValue v) (λ p. three)
-    (λ p. by-test (Gives numbers) (ltb mostTotal (running + v)) (λ q. four) (λ q. lines-give numbers three four (suc line) (running + v) l))
-
--- any list of numbers that has these holds for the judgement
-pub ledger-gives-in : (numbers : List ℕ) → T (among 2 numbers) → T (among 13 numbers) → T (among 3 numbers) → T (among 4 numbers) → T (among 5 numbers) →
-    (ledger : List ℕ) (beside : ℕ) → Gives numbers (ledgerOf ledger beside)
-unfolding ledgerOf linesOf
-ledger-gives-in numbers two thirteen three four five l beside =
-    by-test (Gives numbers) (ltb mostLines (length l)) (λ p. two)
-    (λ p. by-test (Gives numbers) (eqb beside (length l))
-    (λ q. gives-after numbers someTotal (linesFrom 0 0 l) (lines-give numbers three four 0 0 l)
-    (λ total. by-test (Gives numbers) (eqb total 0) (λ z. five) (λ z. tt))) (λ q. thirteen))
+lines-give line running [] = tt
+lines-give line running (v ∷ l) =
+    by-test (Gives ledgerNumbers) (ltb mostValue v) (λ p. tt)
+    (λ p. by-test (Gives ledgerNumbers) (ltb mostTotal (running + v)) (λ q. tt) (λ q. lines-give (suc line) (running + v) l))
 
 pub ledger-gives : (ledger : List ℕ) (beside : ℕ) → Gives ledgerNumbers (ledgerOf ledger beside)
-ledger-gives = ledger-gives-in ledgerNumbers tt tt tt tt tt
+unfolding ledgerOf linesOf
+ledger-gives l beside =
+    by-test (Gives ledgerNumbers) (ltb mostLines (length l)) (λ p. tt)
+    (λ p. by-test (Gives ledgerNumbers) (eqb beside (length l))
+    (λ q. gives-after ledgerNumbers someTotal (linesFrom 0 0 l) (lines-give 0 0 l)
+    (λ total. by-test (Gives ledgerNumbers) (eqb total 0) (λ z. tt) (λ z. tt))) (λ q. tt))

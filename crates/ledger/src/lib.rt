@@ -20,10 +20,10 @@ fn judge_lines(ledger: &[u64]) -> LedgerAnswer
         if value > terms::MOST_VALUE {
             return LedgerAnswer::Refused(Refusal::ValueTooLarge(line as u64));
         }
-        if value > terms::MOST_TOTAL - total {
+        total += value;
+        if total > terms::MOST_TOTAL {
             return LedgerAnswer::Refused(Refusal::TotalTooLarge(line as u64));
         }
-        total += value;
         line += 1;
     }
     LedgerAnswer::Total(total)

@@ -11,7 +11,7 @@ use Rattle.notation.specs.Limits.{mostWords, mostFileLines}
 use Rattle.notation.specs.Contents.{wrongNumber, Content, textOf}
 use Rattle.notation.specs.Parse.{parseSays, counted, parseOf, over, ParsePost}
 use Rattle.notation.specs.Steps.{Rooms, Passed}
-use Rattle.notation.specs.declared.Wrong.the-variants.{NoRoom}
+use Rattle.entry.specs.declared.Wrong.the-variants.{NoRoom}
 use Rattle.notation.specs.declared.Contents.{Contents}
 use Rattle.notation.specs.declared.Fault.{Fault}
 use Rattle.notation.specs.declared.ParseAnswer.{ParseAnswer}

@@ -11,9 +11,9 @@ use Rattle.terms.proofs.Tests.{by-test}
 use Rattle.notation.specs.Limits.{mostWords, mostFileLines}
 use Rattle.notation.specs.Contents.{Content, empty, stateOf, withPlan, withWord, withValue, withError, planJudged, wordJudged, valueJudged, errorJudged, judged, grow}
 use Rattle.notation.specs.Steps.{Rule}
-use Rattle.notation.specs.declared.Wrong.{Wrong}
-use Rattle.notation.specs.declared.Record.{Record}
-use Rattle.notation.specs.declared.Record.the-variants.{Nothing, Plan, Word, Value, Error, Unreadable}
+use Rattle.entry.specs.declared.Wrong.{Wrong}
+use Rattle.entry.specs.declared.Record.{Record}
+use Rattle.entry.specs.declared.Record.the-variants.{Nothing, Plan, Word, Value, Error, Unreadable}
 use Rattle.notation.specs.declared.State.{State}
 use Rattle.notation.specs.declared.Judged.{Judged}
 use Rattle.notation.specs.declared.Judged.the-variants.{Fits, Breaks}

@@ -9,13 +9,13 @@ use Rattle.pen.specs.Text.{decimal}
 use Rattle.pen.proofs.Lengths.{decimal-short}
 use Rattle.terms.specs.Outcome.{accepted}
 use Rattle.terms.proofs.Outcomes.{never}
-use Rattle.notation.specs.Text.{linesOf}
-use Rattle.notation.specs.Records.{recordIn}
+use Rattle.entry.specs.Text.{linesOf}
+use Rattle.entry.specs.Records.{recordIn}
 use Rattle.notation.specs.Contents.{wrongNumber, Content, empty, stateOf, judged, grow, goOn, readLines, textOf}
 use Rattle.notation.specs.Parse.{parseSays, ParsePost}
 use Rattle.notation.specs.Faults.{wrongWords, faultText}
-use Rattle.notation.specs.declared.Wrong.{Wrong}
-use Rattle.notation.specs.declared.Wrong.the-variants.{UnknownKind, NumberMissing, NotNumber, NumberTooLarge, FieldTooMany, NoPlan, SecondPlan, LevelTooLarge, OutOfOrder, TooManyWords, TooManyLines, TotalTooLarge, UnknownLine, LineNotRising, ErrorZero, NoRoom}
+use Rattle.entry.specs.declared.Wrong.{Wrong}
+use Rattle.entry.specs.declared.Wrong.the-variants.{UnknownKind, NumberMissing, NotNumber, NumberTooLarge, FieldTooMany, NoPlan, SecondPlan, LevelTooLarge, OutOfOrder, TooManyWords, TooManyLines, TotalTooLarge, UnknownLine, LineNotRising, ErrorZero, NoRoom}
 use Rattle.notation.specs.declared.Judged.{Judged}
 use Rattle.notation.specs.declared.Judged.the-variants.{Fits, Breaks}
 use Rattle.notation.specs.declared.Fault.{Fault}

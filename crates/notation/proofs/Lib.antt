@@ -1,12 +1,7 @@
 -- What the proofs of several functions use, and what callers cite.
-pub mod Runs
-pub mod Digits
-pub mod Cuts
-pub mod Lines
 pub mod Growing
 pub mod Storing
 pub mod Passing
 pub mod Answers
 pub mod Laws
-pub mod ReadBack
 pub mod Worked

@@ -14,15 +14,16 @@ use Rattle.terms.specs.Numbers.{pick}
 use Rattle.terms.proofs.Tests.{by-test, le-or-lt}
 use Rattle.terms.proofs.Outcomes.{never}
 use Rattle.notation.specs.Limits.{mostFileLines}
-use Rattle.notation.specs.Text.{onto, linesOf, goesOn}
-use Rattle.notation.specs.Records.{recordIn}
-use Rattle.notation.specs.Steps.{runOf, Reached, Rooms, Rule, Kept, endOf, Passed}
+use Rattle.entry.specs.Text.{onto, linesOf, goesOn}
+use Rattle.entry.specs.Records.{recordIn}
+use Rattle.entry.specs.Steps.{runOf, Reached}
+use Rattle.notation.specs.Steps.{Rooms, Rule, Kept, endOf, Passed}
 use Rattle.notation.specs.Contents.{wrongNumber, Content, empty, stateOf, judged, grow, goOn, readLines, textOf}
 use Rattle.notation.specs.Parse.{parseSays, countsOf, counted, over}
-use Rattle.notation.specs.declared.Run.the-variants.{Line}
-use Rattle.notation.specs.declared.Wrong.{Wrong}
-use Rattle.notation.specs.declared.Wrong.the-variants.{NoPlan}
-use Rattle.notation.specs.declared.Record.{Record}
+use Rattle.entry.specs.declared.Run.the-variants.{Line}
+use Rattle.entry.specs.declared.Wrong.{Wrong}
+use Rattle.entry.specs.declared.Wrong.the-variants.{NoPlan}
+use Rattle.entry.specs.declared.Record.{Record}
 use Rattle.notation.specs.declared.State.{State}
 use Rattle.notation.specs.declared.Judged.{Judged}
 use Rattle.notation.specs.declared.Judged.the-variants.{Fits, Breaks}

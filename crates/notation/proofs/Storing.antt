@@ -10,9 +10,9 @@ use Rattle.terms.specs.Numbers.{pick}
 use Rattle.notation.specs.Contents.{Content, stateOf, grow}
 use Rattle.notation.specs.Parse.{over}
 use Rattle.notation.specs.Steps.{Rooms, Rule, putWords, putValues, putErrors, Kept}
-use Rattle.notation.specs.declared.Wrong.{Wrong}
-use Rattle.notation.specs.declared.Record.{Record}
-use Rattle.notation.specs.declared.Record.the-variants.{Nothing, Plan, Word, Value, Error, Unreadable}
+use Rattle.entry.specs.declared.Wrong.{Wrong}
+use Rattle.entry.specs.declared.Record.{Record}
+use Rattle.entry.specs.declared.Record.the-variants.{Nothing, Plan, Word, Value, Error, Unreadable}
 use Rattle.notation.specs.declared.State.{State}
 use Rattle.notation.proofs.Growing.{Legal}
 

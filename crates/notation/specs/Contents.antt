@@ -7,12 +7,12 @@ use lib.ListN.{length, set}
 use Rattle.terms.specs.Outcome.{Outcome, accepted, refused}
 use Rattle.terms.specs.Numbers.{pick, sum}
 use Rattle.notation.specs.Limits.{mostWords, mostFileLines}
-use Rattle.notation.specs.Text.{linesOf}
-use Rattle.notation.specs.Records.{recordIn}
-use Rattle.notation.specs.declared.Wrong.{Wrong}
-use Rattle.notation.specs.declared.Wrong.the-variants.{UnknownKind, NumberMissing, NotNumber, NumberTooLarge, FieldTooMany, NoPlan, SecondPlan, LevelTooLarge, OutOfOrder, TooManyWords, TooManyLines, TotalTooLarge, UnknownLine, LineNotRising, ErrorZero, NoRoom}
-use Rattle.notation.specs.declared.Record.{Record}
-use Rattle.notation.specs.declared.Record.the-variants.{Nothing, Plan, Word, Value, Error, Unreadable}
+use Rattle.entry.specs.Text.{linesOf}
+use Rattle.entry.specs.Records.{recordIn}
+use Rattle.entry.specs.declared.Wrong.{Wrong}
+use Rattle.entry.specs.declared.Wrong.the-variants.{UnknownKind, NumberMissing, NotNumber, NumberTooLarge, FieldTooMany, NoPlan, SecondPlan, LevelTooLarge, OutOfOrder, TooManyWords, TooManyLines, TotalTooLarge, UnknownLine, LineNotRising, ErrorZero, NoRoom}
+use Rattle.entry.specs.declared.Record.{Record}
+use Rattle.entry.specs.declared.Record.the-variants.{Nothing, Plan, Word, Value, Error, Unreadable}
 use Rattle.notation.specs.declared.State.{State}
 use Rattle.notation.specs.declared.Judged.{Judged}
 use Rattle.notation.specs.declared.Judged.the-variants.{Fits, Breaks}

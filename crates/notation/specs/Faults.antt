@@ -4,8 +4,8 @@ use mathlib.Core.List.{List, [], _∷_, _++_}
 use Rattle.pen.specs.Letters.{letters}
 use Rattle.pen.specs.Text.{decimal}
 use Rattle.notation.specs.declared.Fault.{Fault}
-use Rattle.notation.specs.declared.Wrong.{Wrong}
-use Rattle.notation.specs.declared.Wrong.the-variants.{UnknownKind, NumberMissing, NotNumber, NumberTooLarge, FieldTooMany, NoPlan, SecondPlan, LevelTooLarge, OutOfOrder, TooManyWords, TooManyLines, TotalTooLarge, UnknownLine, LineNotRising, ErrorZero, NoRoom}
+use Rattle.entry.specs.declared.Wrong.{Wrong}
+use Rattle.entry.specs.declared.Wrong.the-variants.{UnknownKind, NumberMissing, NotNumber, NumberTooLarge, FieldTooMany, NoPlan, SecondPlan, LevelTooLarge, OutOfOrder, TooManyWords, TooManyLines, TotalTooLarge, UnknownLine, LineNotRising, ErrorZero, NoRoom}
 
 abbrev pub wrongWords : Wrong → List ℕ
 wrongWords UnknownKind = letters "the line begins with none of P, W, L, E and #"

@@ -8,7 +8,7 @@ use Rattle.terms.specs.Outcome.{Outcome, accepted, refused, after, left}
 use Rattle.terms.specs.Numbers.{pick}
 use Rattle.notation.specs.Limits.{mostWords, mostFileLines}
 use Rattle.notation.specs.Contents.{wrongNumber, Content, stateOf, textOf}
-use Rattle.notation.specs.declared.Wrong.the-variants.{NoRoom}
+use Rattle.entry.specs.declared.Wrong.the-variants.{NoRoom}
 use Rattle.notation.specs.declared.State.{State}
 use Rattle.notation.specs.declared.Contents.{Contents}
 use Rattle.notation.specs.declared.ParseAnswer.{ParseAnswer}

@@ -1,5 +1,4 @@
--- What the parts of the code promise: where a run of bytes ends, which number stands next, where a record goes, and what one pass over a
--- text gives. These are definitions: nothing is assumed.
+-- What the parts of the code promise: where a record goes, and what one pass over a text gives. These are definitions: nothing is assumed.
 use Prim.Native.Nat.{ℕ, suc, _+_, _≤_, _^_, _<_}
 use mathlib.Core.Path.{_≡_}
 use mathlib.Core.List.{List, [], _∷_}
@@ -8,46 +7,15 @@ use lib.ListN.{length, drop, set}
 use lib.Dec.{eqb}
 use Rattle.terms.specs.Numbers.{pick}
 use Rattle.terms.specs.Outcome.{Outcome, accepted, refused, after}
-use Rattle.notation.specs.Text.{fieldsOf, goesOn}
-use Rattle.notation.specs.Records.{next}
 use Rattle.notation.specs.Limits.{mostWords, mostFileLines}
 use Rattle.notation.specs.Contents.{wrongNumber, Content, textOf}
 use Rattle.notation.specs.Parse.{parseSays, countsOf, counted, over}
-use Rattle.notation.specs.declared.Run.{Run}
-use Rattle.notation.specs.declared.Record.{Record}
-use Rattle.notation.specs.declared.Record.the-variants.{Unreadable, Nothing, Plan, Word, Value, Error}
-use Rattle.notation.specs.declared.NextAnswer.{NextAnswer}
-use Rattle.notation.specs.declared.NextAnswer.the-variants.{Next, NoNext}
-use Rattle.notation.specs.declared.Wrong.the-variants.{NoPlan}
+use Rattle.entry.specs.declared.Record.{Record}
+use Rattle.entry.specs.declared.Record.the-variants.{Unreadable, Nothing, Plan, Word, Value, Error}
+use Rattle.entry.specs.declared.Wrong.the-variants.{NoPlan}
 use Rattle.notation.specs.declared.State.{State}
 use Rattle.notation.specs.declared.Contents.{Contents}
 use Rattle.notation.specs.declared.ParseAnswer.{ParseAnswer}
-
--- how many bytes of a list a run goes over
-unfoldable pub runOf : Run → List ℕ → ℕ
-runOf run [] = 0
-runOf run (b ∷ l) = pick (goesOn run b) (suc (runOf run l)) 0
-
-pub record Reached (run : Run) (text : List ℕ) (from at : ℕ) : Type 0 where
-  pub after : from ≤ at
-  pub within : at ≤ length text
-  pub same : at ≡ from + runOf run (drop from text)
-
--- the fields from a place of a line on
-unfoldable pub fieldsAt : List ℕ → ℕ → List (List ℕ)
-fieldsAt line at = fieldsOf (drop at line)
-
-abbrev pub nextPlace : NextAnswer → ℕ
-nextPlace (Next value to) = to
-nextPlace (NoNext wrong) = 0
-
-abbrev pub nextSays : List ℕ → NextAnswer → (ℕ → List (List ℕ) → Record) → Record
-nextSays line (Next value to) more = more value (fieldsAt line to)
-nextSays line (NoNext wrong) more = Unreadable wrong
-
-pub record NextNumber (line : List ℕ) (at : ℕ) (r : NextAnswer) : Type 0 where
-  pub within : nextPlace r ≤ length line
-  pub same : (more : ℕ → List (List ℕ) → Record) → next (fieldsAt line at) more ≡ nextSays line r more
 
 -- room for what any text holds
 pub record Rooms (w v e : List ℕ) : Type 0 where

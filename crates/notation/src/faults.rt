@@ -2,7 +2,7 @@
 ghost use Rattle.pen.specs.Page.{Wrote, Printed};
 ghost use Rattle.notation.specs.Faults.{wrongWords, faultText};
 use crate::Fault;
-use crate::Wrong;
+use entry::Wrong;
 use pen::Pen;
 
 // What is wrong.

@@ -1,9 +1,10 @@
 // The text from which a working file is made: one record a line, in the practice sheet's own notation.
-mod fields; // fields.rt: the bytes of a line, its fields and numbers
-mod records; // records.rt: the record of a line
 mod rules; // rules.rt: which record may follow which
 pub mod faults; // faults.rt: a fault in words
 
+use entry::Record;
+use entry::Run;
+use entry::Wrong;
 ghost use mathlib.Core.Path.{_≡_};
 ghost use Prim.Native.Nat.{suc, _≤_, min};
 ghost use lib.ListN.{length};
@@ -15,26 +16,6 @@ ghost use Rattle.notation.specs.Steps.{Rooms, Rule, Kept, endOf, Passed}
 pub const MOST_WORDS: usize = 64;
 
 pub const MOST_FILE_LINES: usize = 2_048;
-
-// What is wrong with a line; the last is wrong with the call.
-pub enum Wrong {
-    UnknownKind,
-    NumberMissing,
-    NotNumber,
-    NumberTooLarge,
-    FieldTooMany,
-    NoPlan,
-    SecondPlan,
-    LevelTooLarge,
-    OutOfOrder,
-    TooManyWords,
-    TooManyLines,
-    TotalTooLarge,
-    UnknownLine,
-    LineNotRising,
-    ErrorZero,
-    NoRoom,
-}
 
 // The number of a line of the text, from 1, and what is wrong there.
 pub struct Fault {
@@ -54,34 +35,6 @@ pub struct Contents {
 pub enum ParseAnswer {
     Parsed(Contents),
     Faulty(Fault),
-}
-
-// What a run of bytes goes on over.
-enum Run {
-    Blanks,
-    Field,
-    Line,
-}
-
-enum NumberAnswer {
-    Number(u64),
-    NoNumber(Wrong),
-}
-
-// The next number of a line and the place after it.
-enum NextAnswer {
-    Next(u64, usize),
-    NoNext(Wrong),
-}
-
-// What a line holds; a blank line and a comment hold nothing.
-enum Record {
-    Nothing,
-    Plan(u64, u64, u64),
-    Word(u64),
-    Value(u64),
-    Error(u64, u64),
-    Unreadable(Wrong),
 }
 
 // What the rules ask of the records so far; `next` is the lowest line that an E may name.
@@ -188,8 +141,8 @@ fn pass(
         next: 0,
     };
     while at < text.len() {
-        let end = fields::reach(text, at, Run::Line);
-        let found = records::record_of(&text[at..end]);
+        let end = entry::fields::reach(text, at, Run::Line);
+        let found = entry::records::record_of(&text[at..end]);
         match rules::judge(state, found) {
             Judged::Breaks(wrong) => {
                 return ParseAnswer::Faulty(Fault {

@@ -4,9 +4,9 @@ ghost use Rattle.notation.specs.Contents.{planJudged, wordJudged, valueJ
 use crate::Judged;
 use crate::MOST_FILE_LINES;
 use crate::MOST_WORDS;
-use crate::Record;
 use crate::State;
-use crate::Wrong;
+use entry::Record;
+use entry::Wrong;
 
 fn judge_plan(s: State, level: u64, te: u64, ae: u64) -> Judged
     ensures { λ r. ⌜ r ≡ planJudged s level te ae ⌝ }

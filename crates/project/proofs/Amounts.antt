@@ -9,6 +9,7 @@ use borrow.Author.Tests.{ltb-true, ltb-false}
 use lib.Dec.{ltb}
 use lib.ListN.{length, length-append}
 use Rattle.terms.specs.Numbers.{pick, sum, divUp, AllUpTo}
+use Rattle.terms.proofs.Sums.{sum-append}
 use Rattle.terms.proofs.Rounding.{divUp-least}
 use Rattle.draw.specs.Row.{full}
 use Rattle.project.specs.declared.State.{State}
@@ -52,10 +53,6 @@ pub one-more : (ls : List Line) (l : Line) → amountsOf (ls ++ (l ∷ [])) ≡ 
 unfolding amountsOf
 one-more [] l = refl
 one-more (x ∷ ls) l = ap (amountBefore (x .state) (x .error)) (one-more ls l) ∙ before-more (x .state) (x .error) (amountsOf ls) (amountBefore (l .state) (l .error) [])
-
-sum-append : (xs ys : List ℕ) → sum (xs ++ ys) ≡ sum xs + sum ys
-sum-append [] ys = omega arith
-sum-append (x ∷ xs) ys = omega (arith, sum-append xs ys)
 
 all-append : (J : ℕ) (xs ys : List ℕ) → AllUpTo J xs → AllUpTo J ys → AllUpTo J (xs ++ ys)
 all-append J [] ys p q = q

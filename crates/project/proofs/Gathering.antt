@@ -1,7 +1,6 @@
 -- The loop that gathers: the sums are those of the lines that it has passed, and their amounts stand at the front of the list while there is
 -- room. Assumes nothing.
-use Prim.Native.Nat.{ℕ, zero, suc, _+_, _≤_, _<_}
-use native.Mathlib.Numerals.{add-one}
+use Prim.Native.Nat.{ℕ, suc, _+_, _≤_, _<_}
 use native.Mathlib.Omega.{arith}
 use mathlib.Core.Path.{_≡_, refl, sym, ap, _∙_}
 use mathlib.Core.Bool.{Bool, true, false}
@@ -9,7 +8,7 @@ use mathlib.Core.List.{List, [], _∷_, _++_, append-nil}
 use lib.Dec.{ltb}
 use lib.ListN.{length, getD, take, set, length-append, length-set}
 use lib.Seq.{take-suc-set}
-use Rattle.terms.specs.Outcome.{Outcome, accepted, refused, after}
+use Rattle.terms.specs.Outcome.{accepted, refused, after}
 use Rattle.terms.specs.Numbers.{pick}
 use Rattle.terms.proofs.Outcomes.{never}
 use Rattle.draw.specs.Walk.{stepOf}
@@ -20,7 +19,7 @@ use Rattle.project.specs.declared.Projection.{Projection}
 use Rattle.draw.proofs.Row.{row-sum}
 use Rattle.project.specs.Lines.{amountBefore, amountsOf, fullPart, sampledPart, countPart, total, projectionOf}
 use Rattle.project.specs.Walk.{lineAt, addedTo, Fits}
-use Rattle.project.specs.Project.{checkedLine, checkedLines, projectionAt, Ready}
+use Rattle.project.specs.Project.{checkedLine, projectionAt, Ready}
 use Rattle.project.specs.Gathered.{keptBy, Gathered}
 use Rattle.project.proofs.Keeping.{kept-length}
 use Rattle.project.proofs.Amounts.{total-more, one-more}

@@ -9,13 +9,12 @@ use lib.Dec.{ltb}
 use lib.ListN.{length, getD, drop}
 use Rattle.terms.specs.Outcome.{accepted, refused, after}
 use Rattle.terms.specs.Numbers.{pick, sum}
-use Rattle.terms.proofs.Outcomes.{after-accepted, Gives, gives-after}
+use Rattle.terms.proofs.Outcomes.{after-accepted, Gives, gives-after, gives-among}
 use Rattle.terms.proofs.Tests.{by-test}
 use Rattle.split.specs.declared.Figures.{Figures}
 use Rattle.draw.specs.Points.{covers}
 use Rattle.draw.specs.Row.{full, cents, marksFrom, drawMarks}
 use Rattle.draw.specs.Draw.{figuresFor}
-use Rattle.draw.proofs.MoreOutcomes.{gives-more}
 use Rattle.draw.proofs.Laws.{StartFacts, start-facts, drawNumbers, figures-give}
 use Rattle.project.specs.declared.State.{State}
 use Rattle.project.specs.declared.State.the-variants.{NotDrawn, Drawn, Full}
@@ -93,7 +92,7 @@ project-facts ledger n start errors p e =
 abbrev pub projectNumbers : List ℕ
 projectNumbers = drawNumbers ++ (14 ∷ 15 ∷ [])
 
-checked-gives : (item : ℕ) (ls : List Line) → Gives projectNumbers (checkedFrom item ls)
+pub checked-gives : (item : ℕ) (ls : List Line) → Gives projectNumbers (checkedFrom item ls)
 unfolding checkedFrom checkedLine
 checked-gives item [] = tt
 checked-gives item (l ∷ ls) =
@@ -105,7 +104,7 @@ pub project-gives : (ledger : List ℕ) (n start : ℕ) (errors : List ℕ) → 
 unfolding projectOf projectionAt checkedLines
 project-gives ledger n start errors =
     gives-after projectNumbers (projectedBy ledger start errors) (figuresFor ledger n start (length errors))
-    (gives-more drawNumbers (14 ∷ 15 ∷ []) (figuresFor ledger n start (length errors)) (figures-give ledger n start (length errors)))
+    (gives-among drawNumbers projectNumbers tt (figuresFor ledger n start (length errors)) (figures-give ledger n start (length errors)))
     (λ f. gives-after projectNumbers (λ lines. accepted (projectionOf lines)) (checkedLines (f .interval) start ledger errors) (checked-gives 0 (linesOf (f .interval) start ledger errors)) (λ lines. tt))
 
 -- a line's state and its mark

@@ -1,6 +1,6 @@
 -- The lines of a ledger at an interval J and a start, each with its error and its state, and what they add up to. These are definitions:
 -- nothing is assumed.
-use Prim.Native.Nat.{ℕ, _+_, _*_, _≤_}
+use Prim.Native.Nat.{ℕ, _+_, _*_}
 use mathlib.Core.Bool.{Bool}
 use mathlib.Core.List.{List, [], _∷_}
 use lib.Dec.{ltb}

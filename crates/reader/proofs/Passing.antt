@@ -11,6 +11,7 @@ use borrow.Author.Tests.{le-leb, lt-leb, eq-eqb, ne-eqb}
 use Rattle.terms.specs.Outcome.{accepted, refused}
 use Rattle.terms.specs.Numbers.{pick, sum}
 use Rattle.terms.proofs.Tests.{by-test}
+use Rattle.terms.proofs.Sums.{sum-append}
 use Rattle.workfile.specs.Content.{Content}
 use Rattle.workfile.specs.Decode.{size, isEnd, recordOf, tallyOf, fits, grow, padTo, closed, run, planOf, start, decode}
 use Rattle.workfile.specs.Rules.{Rule}
@@ -19,7 +20,7 @@ use Rattle.workfile.specs.declared.FileRecord.{FileRecord}
 use Rattle.workfile.specs.declared.FileRecord.the-variants.{Word, Value, ErrorOf, End, Nothing}
 use Rattle.workfile.proofs.Records.{whole-size}
 use Rattle.workfile.proofs.Rules.{rule, fitted, some-size, is-end}
-use Rattle.workfile.proofs.Lists.{sum-append, length-pad}
+use Rattle.workfile.proofs.Lists.{length-pad}
 use Rattle.reader.specs.Steps.{recordAt, tallied, judged, checkOf}
 use Rattle.reader.specs.declared.Judged.the-variants.{Next, Last, Bad}
 use Rattle.reader.specs.declared.Checked.the-variants.{Legal, Broken}

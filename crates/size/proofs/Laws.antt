@@ -12,7 +12,7 @@ use Rattle.terms.specs.Numbers.{pick, divUp}
 use Rattle.terms.specs.Limits.{mostTotal}
 use Rattle.terms.proofs.Tests.{by-test}
 use Rattle.terms.proofs.Rounding.{divUp-above, divUp-enough, divUp-least}
-use Rattle.terms.proofs.Outcomes.{never, after-accepted, Gives, gives-after, among}
+use Rattle.terms.proofs.Outcomes.{never, after-accepted, Gives, gives-after, gives-among, among}
 use Rattle.factors.specs.declared.Level.{Level}
 use Rattle.factors.specs.Levels.{levelOf, ef}
 use Rattle.factors.specs.Factors.{rf}
@@ -91,16 +91,7 @@ at-gives total te ae l =
     (or-later (ltb total te) 6 _ tt
     (or-later (ltb total ae) 6 _ tt (or-later (leb (100 * te) (ae * ef l)) 7 (accepted (divUp (total * rf l 0) (spare te ae l))) tt tt)))))
 
--- a level's refusal is among them
-first-gives : (o : Outcome Level) → Gives (1 ∷ []) o → Gives sizeNumbers o
-first-gives (accepted l) g = tt
-first-gives (refused k p) g = go (eqb k 1) g
-  where
-    go : (b : Bool) → T (pick b true false) → T (pick b true (among k (4 ∷ 5 ∷ 6 ∷ 7 ∷ [])))
-    go true t = tt
-    go false t = absurd t
-
 pub size-gives : (percent total te ae : ℕ) → Gives sizeNumbers (sizeOf percent total te ae)
 unfolding sizeOf
 size-gives percent total te ae =
-    gives-after sizeNumbers (sizeAt total te ae) (levelOf percent) (first-gives (levelOf percent) (level-gives percent)) (at-gives total te ae)
+    gives-after sizeNumbers (sizeAt total te ae) (levelOf percent) (gives-among (1 ∷ []) sizeNumbers tt (levelOf percent) (level-gives percent)) (at-gives total te ae)

@@ -10,10 +10,10 @@ use lib.ListN.{length}
 use Rattle.terms.specs.Outcome.{Outcome, accepted, refused, after}
 use Rattle.terms.specs.Numbers.{pick, sum}
 use Rattle.terms.specs.Limits.{mostInterval}
-use Rattle.terms.proofs.Outcomes.{never, after-accepted, Gives, gives-after}
+use Rattle.terms.proofs.Outcomes.{never, after-accepted, Gives, gives-after, gives-among}
 use Rattle.terms.proofs.Tests.{by-test}
 use Rattle.ledger.specs.Ledger.{ledgerOf, linesFrom, linesOf, someTotal}
-use Rattle.ledger.proofs.Laws.{Good, good, ledger-gives-in}
+use Rattle.ledger.proofs.Laws.{Good, good, ledgerNumbers, ledger-gives}
 use Rattle.split.specs.Rounds.{above, upTo, intervalOf, Rest, splitLines, intervals, becomesFull}
 use Rattle.split.specs.Split.{Totalled, figuresOf, settledOf, figuresFrom, splitOf}
 use Rattle.split.specs.declared.Figures.{Figures}
@@ -98,6 +98,6 @@ splitNumbers = 2 ∷ 13 ∷ 3 ∷ 4 ∷ 5 ∷ 8 ∷ 10 ∷ []
 pub split-gives : (ledger : List ℕ) (n beside : ℕ) → Gives splitNumbers (splitOf ledger n beside)
 unfolding splitOf figuresFrom
 split-gives ledger n beside =
-    gives-after splitNumbers (figuresFrom ledger n) (ledgerOf ledger beside) (ledger-gives-in splitNumbers tt tt tt tt tt ledger beside)
+    gives-after splitNumbers (figuresFrom ledger n) (ledgerOf ledger beside) (gives-among ledgerNumbers splitNumbers tt (ledgerOf ledger beside) (ledger-gives ledger beside))
     (λ total. by-test (Gives splitNumbers) (eqb n 0) (λ z. tt)
     (λ z. rw (settled-is ledger n (eqb-false n 0 z)) (by-test (Gives splitNumbers) (ltb mostInterval (splitLines ledger n .interval)) (λ p. tt) (λ p. tt))))

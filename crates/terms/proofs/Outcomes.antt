@@ -1,15 +1,17 @@
 -- Outcomes: an accepted call is no refused one, what a step that starts with another was accepted from, which refusals it gives,
 -- and that a number and a place name one refusal. Assumes nothing.
-use mathlib.Core.Path.{_≡_, refl, sym, ap, _∙_}
+use mathlib.Core.Path.{_≡_, refl, sym, subst, _∙_}
 use mathlib.Core.List.{List, [], _∷_}
 use mathlib.Core.Bool.{Bool, true, false}
 use Prim.Native.Nat.{ℕ, zero, suc}
 use native.Mathlib.Omega.{arith}
 use lib.Dec.{T, eqb}
+use borrow.Author.Tests.{eqb-true}
 use Rattle.terms.specs.declared.Refusal.{Refusal}
 use Rattle.terms.specs.declared.Refusal.the-variants.{UnknownLevel, TooManyLines, ValueTooLarge, TotalTooLarge, TotalZero, ToleranceOutOfRange, ToleranceSpent, NoDraws, DrawsUsedUp, IntervalTooLarge, StartOutOfRange, NoWordPasses, LengthsDiffer, ErrorAboveValue, ErrorNotDrawn, TooManyErrors, FileBreaksRule, RoomTooShort, NoLegalFile}
 use Rattle.terms.specs.Refusals.{number, place}
 use Rattle.terms.specs.Numbers.{pick}
+use Rattle.terms.proofs.Every.{both, both-left, both-right}
 use Rattle.terms.specs.Outcome.{Outcome, accepted, refused, refusedBy, after}
 
 pub never : {A B : Type 0} {a : A} {n p : ℕ} → refused n p ≡ accepted a → B
@@ -33,6 +35,25 @@ Gives numbers (refused n p) = T (among n numbers)
 pub gives-after : {A B : Type 0} (numbers : List ℕ) (next : A → Outcome B) (o : Outcome A) → Gives numbers o → ((a : A) → Gives numbers (next a)) → Gives numbers (after next o)
 gives-after numbers next (accepted a) g h = h a
 gives-after numbers next (refused n p) g h = g
+
+-- each number of the first list is among the second
+abbrev pub allAmong : List ℕ → List ℕ → Bool
+allAmong [] more = true
+allAmong (n ∷ ns) more = both (among n more) (allAmong ns more)
+
+found-among : (k n : ℕ) (b : Bool) → eqb k n ≡ b → (rest : Bool) (more : List ℕ) → T (pick b true rest) → T (among n more) → (T rest → T (among k more)) → T (among k more)
+found-among k n true e rest more t here later = subst (λ (m : ℕ). T (among m more)) (sym (eqb-true k n e)) here
+found-among k n false e rest more t here later = later t
+
+among-all : (k : ℕ) (numbers more : List ℕ) → T (allAmong numbers more) → T (among k numbers) → T (among k more)
+among-all k [] more a t = absurd t
+among-all k (n ∷ ns) more a t =
+    found-among k n (eqb k n) refl (among k ns) more t (both-left (among n more) (allAmong ns more) a) (among-all k ns more (both-right (among n more) (allAmong ns more) a))
+
+-- what gives some refusals gives them among more
+pub gives-among : {A : Type 0} (numbers more : List ℕ) → T (allAmong numbers more) → (o : Outcome A) → Gives numbers o → Gives more o
+gives-among numbers more a (accepted x) g = tt
+gives-among numbers more a (refused k p) g = among-all k numbers more a g
 
 -- the refusals in the order of their numbers, each at place p
 listed : ℕ → List Refusal

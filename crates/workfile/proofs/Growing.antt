@@ -6,6 +6,7 @@ use mathlib.Core.List.{List, [], _∷_, _++_, map, map-append, append-nil, appen
 use native.Mathlib.Omega.{arith}
 use lib.ListN.{length, length-append, length-replicate}
 use Rattle.terms.specs.Numbers.{sum}
+use Rattle.terms.proofs.Sums.{sum-append}
 use Rattle.workfile.specs.Content.{Content, mostWords, mostFileLines, sumBound, planBytes, bytesOf, bytesOfAll, errorRecords, between, closing, encode}
 use Rattle.workfile.specs.Decode.{size, isEnd, tallyOf, grow, start}
 use Rattle.workfile.specs.Rules.{Rule}
@@ -13,7 +14,7 @@ use Rattle.workfile.specs.declared.Plan.{Plan}
 use Rattle.workfile.specs.declared.FileRecord.{FileRecord}
 use Rattle.workfile.specs.declared.FileRecord.the-variants.{Word, Value, ErrorOf, End, Nothing}
 use Rattle.workfile.proofs.Records.{length-record}
-use Rattle.workfile.proofs.Lists.{nil-of-length, sum-append, bytes-append, length-pad, errors-pad, errors-more, length-words, length-values, length-errors, few-errors}
+use Rattle.workfile.proofs.Lists.{nil-of-length, bytes-append, length-pad, errors-pad, errors-more, length-words, length-values, length-errors, few-errors}
 
 pub record SoFar (c : Content) : Type 0 where
   pub sound : length (c .errors) ≤ length (c .values)

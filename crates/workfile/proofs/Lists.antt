@@ -14,10 +14,6 @@ pub nil-of-length : {A : Type 0} (l : List A) → length l ≡ 0 → l ≡ []
 nil-of-length [] h = refl
 nil-of-length (x ∷ l) h = absurd (omega arith)
 
-pub sum-append : (xs ys : List ℕ) → sum (xs ++ ys) ≡ sum xs + sum ys
-sum-append [] ys = omega arith
-sum-append (x ∷ xs) ys = omega (arith, sum-append xs ys)
-
 pub bytes-append : (rs qs : List FileRecord) → bytesOfAll (rs ++ qs) ≡ bytesOfAll rs ++ bytesOfAll qs
 bytes-append [] qs = refl
 bytes-append (r ∷ rs) qs = ap (λ (l : List ℕ). bytesOf r ++ l) (bytes-append rs qs) ∙ sym (append-assoc (bytesOf r) (bytesOfAll rs) (bytesOfAll qs))

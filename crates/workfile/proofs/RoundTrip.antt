@@ -8,6 +8,7 @@ use borrow.Author.Tests.{le-leb}
 use lib.ListN.{length, getD, length-append, length-replicate}
 use Rattle.terms.specs.Outcome.{accepted, refused}
 use Rattle.terms.specs.Numbers.{pick, sum}
+use Rattle.terms.proofs.Sums.{sum-append}
 use Rattle.workfile.specs.Numbers.{bytes}
 use Rattle.workfile.specs.Content.{Content, mostWords, mostFileLines, sumBound, planBytes, bytesOf, bytesOfAll, errorRecords, between, closing, encode}
 use Rattle.workfile.specs.Decode.{size, isEnd, tallyOf, grow, padTo, withErrors, run, hasPlan, planOf, start, decode}
@@ -18,7 +19,7 @@ use Rattle.workfile.specs.declared.FileRecord.the-variants.{Word, Value,
 use Rattle.workfile.proofs.Numbers.{number-again}
 use Rattle.workfile.proofs.Records.{Good, record-again, skip, length-record}
 use Rattle.workfile.proofs.Rules.{fitted, some-size}
-use Rattle.workfile.proofs.Lists.{sum-append, pad-skip, pad-take}
+use Rattle.workfile.proofs.Lists.{pad-skip, pad-take}
 use Rattle.workfile.proofs.OneFile.{Counts}
 
 -- the numbers of a content fit their bytes, as those of lent slices do

@@ -15,29 +15,34 @@ use Rattle.factors.proofs.reliability.Statement.{statement}
 use Rattle.factors.proofs.reliability.Tie as tie
 
 -- the entry at a level's row and k
-read : (l : Level) (k r : ℕ) → r ≡ rowOf l → k < 64 → Reliability l k (getD table (r * 64 + k) 0)
-read l k r e h =
-    let same : getD table (r * 64 + k) 0 ≡ rf l k = ap (λ (n : ℕ). getD table (n * 64 + k) 0) e ∙ sym (rf-in l k h) in
+read : (l : Level) (k r f : ℕ) → f ≡ getD table (r * 64 + k) 0 → r ≡ rowOf l → k < 64 → Reliability l k f
+read l k r f g e h =
+    let same : f ≡ rf l k = g ∙ ap (λ (n : ℕ). getD table (n * 64 + k) 0) e ∙ sym (rf-in l k h) in
     record { value = same; rule = λ g. subst (λ (x : ℕ). Factor (percentOf l) k x) (sym same) (rf-factor l k g) }
 
 row-requires : tie.Need-row-requires
 row-requires c κs = search needs
 
-mul-result : tie.Need-mul-result
-mul-result c = omega (arith, c .row .ensures, row-lt (c .before .before .args .level))
+mul-wide : tie.Need-mul-wide
+mul-wide c = omega (arith, c .row .ensures, row-lt (c .before .before .args .level))
 
-add-result : tie.Need-add-result
-add-result c = omega (arith, c .row .ensures, row-lt (c .before .before .args .level))
+add-wide : tie.Need-add-wide
+add-wide c = omega (arith, c .row .ensures, row-lt (c .before .before .args .level))
 
-mul-result-2 : tie.Need-mul-result-2
-mul-result-2 c = omega (arith, c .row .ensures, row-lt (c .before .before .args .level))
+mul-wide-2 : tie.Need-mul-wide-2
+mul-wide-2 c = omega (arith, c .row .ensures, row-lt (c .before .before .args .level))
 
-array-read-result : tie.Need-array-read-result
-array-read-result c = omega (arith, c .row .ensures, row-lt (c .before .before .args .level))
+array-read-wide : tie.Need-array-read-wide
+array-read-wide c = omega (arith, c .row .ensures, row-lt (c .before .before .args .level))
+
+wide-requires : tie.Need-wide-requires
+wide-requires c κs = search needs
 
 returns : tie.Need-returns
 unfolding table
-returns c = read (c .before .before .args .level) (c .before .before .args .k) (c .row .result) (c .row .ensures) (omega arith)
+returns c =
+    let at = c .before in
+    read (at .before .before .args .level) (at .before .before .args .k) (at .row .result) _ (c .wide .ensures) (at .row .ensures) (omega arith)
 
 returns-2 : tie.Need-returns-2
 returns-2 c = record { value = sym (rf-out _ _ (omega arith)); rule = λ h. absurd (omega arith) }
@@ -45,4 +50,12 @@ returns-2 c = record { value = sym (rf-out _ _ (omega arith)); rule = λ h. absu
 pub reliability-spec : {M : Type 1} → statement M
 reliability-spec =
     tie.close
-    (tie.spec row-requires mul-result add-result mul-result-2 array-read-result returns returns-2)
+    (tie.spec
+    row-requires
+    mul-wide
+    add-wide
+    mul-wide-2
+    array-read-wide
+    wide-requires
+    returns
+    returns-2)

@@ -1,6 +1,5 @@
 -- `judge::conclude` meets its contract: the sums fit, and the verdict is the definition's. Assumes nothing.
 use borrow.Author.Needs.{needs}
-use native.Mathlib.Omega.{arith}
 use Rattle.judge.proofs.Answer.{concludes}
 use Rattle.judge.proofs.conclude.Statement.{statement}
 use Rattle.judge.proofs.conclude.Tie as tie

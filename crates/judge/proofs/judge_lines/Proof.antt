@@ -1,7 +1,7 @@
 -- `judge::judge_lines` meets its contract: the lines' refusal, 16, or the judgement of their amounts. Assumes nothing.
 use borrow.Author.Needs.{needs}
 use native.Mathlib.Omega.{arith}
-use mathlib.Core.Path.{_≡_, refl, sym, _∙_, ap}
+use mathlib.Core.Path.{refl, sym, _∙_, ap}
 use Rattle.terms.specs.Outcome.{accepted}
 use Rattle.project.specs.Project.{projectSays}
 use Rattle.judge.proofs.Lines.{AtGathered, lines-refused, too-many, amounts-long, amounts-few, amounts-up-to, limit-fits, judged}

@@ -31,14 +31,11 @@ shared-slice-read-value c = search needs
 returns : tie.Need-returns Inv-loop μ-loop
 returns c = sym (value-too-large _ _ _ (search needs) (search needs)) ∙ c .before .before .before .loop .inv .2
 
-sub-if2 : tie.Need-sub-if2 Inv-loop μ-loop
-sub-if2 c = omega arith
+add-total : tie.Need-add-total Inv-loop μ-loop
+add-total c = omega arith
 
 returns-2 : tie.Need-returns-2 Inv-loop μ-loop
 returns-2 c = sym (total-too-large _ _ _ (search needs) (search needs) (omega arith)) ∙ c .before .before .before .before .loop .inv .2
-
-add-total : tie.Need-add-total Inv-loop μ-loop
-add-total c = omega arith
 
 add-line : tie.Need-add-line Inv-loop μ-loop
 add-line c = omega arith
@@ -63,9 +60,8 @@ judge-lines-spec =
     mul-value
     shared-slice-read-value
     returns
-    sub-if2
-    returns-2
     add-total
+    returns-2
     add-line
     loop-less
     loop-again

@@ -1,7 +1,7 @@
 -- `notation::keep` meets its contract: each arm is the place of one kind. Assumes nothing.
 use borrow.Author.Needs.{needs}
 use native.Mathlib.Omega.{arith}
-use Rattle.notation.proofs.Runs.{turned, unturned}
+use Rattle.entry.proofs.Runs.{turned, unturned}
 use Rattle.notation.proofs.Storing.{kept-not, kept-nothing, kept-plan, kept-word, kept-value, kept-error, kept-unreadable}
 use Rattle.notation.proofs.keep.Statement.{statement}
 use Rattle.notation.proofs.keep.Tie as tie

@@ -3,7 +3,7 @@
 use borrow.Author.Needs.{needs}
 use native.Mathlib.Omega.{arith}
 use Prim.Native.Nat.{_-_}
-use mathlib.Core.Path.{_≡_, sym, ap, _∙_}
+use mathlib.Core.Path.{sym, ap, _∙_}
 use lib.ListN.{length}
 use Rattle.project.specs.Project.{lineSays}
 use Rattle.project.proofs.Gathering.{Gathering, gathering-none, gathering-refused, gathering-fits, gathering-more, gathering-end}

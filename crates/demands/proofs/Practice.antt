@@ -1,0 +1,24 @@
+-- The practice sheet's cases marked *, as one statement over one list, by computation. Assumes nothing.
+use mathlib.Core.Path.{refl}
+use Rattle.terms.specs.Numbers.{divUp}
+use Rattle.factors.specs.Levels.{levelOf}
+use Rattle.factors.specs.Factors.{rf, stepOf}
+use Rattle.factors.specs.Table.{table}
+use Rattle.ledger.specs.Ledger as ledger
+use Rattle.size.specs.Size.{sizeAt, sizeOf}
+use Rattle.split.specs.Rounds.{rounds, intervals}
+use Rattle.split.specs.Split.{splitOf, figuresFrom, fullMarks}
+use Rattle.draw.specs.Points.{points, covers}
+use Rattle.draw.specs.Row.{marksFrom, drawMarks, ones}
+use Rattle.draw.specs.Draw.{figuresFor, drawOf}
+use Rattle.project.specs.Lines.{amount, linesFrom, linesOf, total, amountsOf}
+use Rattle.project.specs.Project.{checkedLine, checkedFrom, checkedLines, projectionAt, projectOf}
+use Rattle.precision.specs.Sorting.{sortDown}
+use Rattle.precision.specs.Precision.{hundredths, roundUp, precisionOf}
+use Rattle.judge.specs.Judge.{verdictOf, concluded, judgedLines, judgedAt, judgedFigures, judgedLedger, judgeOf}
+use Rattle.demands.specs.Starts.{sumBelow, entered}
+use Rattle.demands.specs.Practice.{withMark, found, practice, AllFound}
+
+pub all-found : AllFound practice
+unfolding practice found withMark sizeOf sizeAt levelOf rf table divUp splitOf figuresFrom ledger.ledgerOf ledger.linesOf ledger.linesFrom rounds intervals fullMarks sumBelow entered drawOf figuresFor drawMarks marksFrom ones covers points projectOf projectionAt checkedLines checkedFrom checkedLine linesOf linesFrom total amountsOf amount judgeOf judgedLedger judgedFigures judgedAt judgedLines concluded verdictOf precisionOf hundredths roundUp sortDown stepOf
+all-found = refl

@@ -1,0 +1,51 @@
+// One line of the text from which a working file is made: its fields, its numbers and its record.
+pub mod fields; // fields.rt: the bytes of a line, its fields and numbers
+pub mod records; // records.rt: the record of a line
+
+// What is wrong with a line; the last is wrong with the call.
+pub enum Wrong {
+    UnknownKind,
+    NumberMissing,
+    NotNumber,
+    NumberTooLarge,
+    FieldTooMany,
+    NoPlan,
+    SecondPlan,
+    LevelTooLarge,
+    OutOfOrder,
+    TooManyWords,
+    TooManyLines,
+    TotalTooLarge,
+    UnknownLine,
+    LineNotRising,
+    ErrorZero,
+    NoRoom,
+}
+
+// What a run of bytes goes on over.
+pub enum Run {
+    Blanks,
+    Field,
+    Line,
+}
+
+pub enum NumberAnswer {
+    Number(u64),
+    NoNumber(Wrong),
+}
+
+// The next number of a line and the place after it.
+pub enum NextAnswer {
+    Next(u64, usize),
+    NoNext(Wrong),
+}
+
+// What a line holds; a blank line and a comment hold nothing.
+pub enum Record {
+    Nothing,
+    Plan(u64, u64, u64),
+    Word(u64),
+    Value(u64),
+    Error(u64, u64),
+    Unreadable(Wrong),
+}

@@ -1,0 +1,193 @@
+-- What is known of an accepted judgement, when each verdict is given, and which refusals the judgement gives. Assumes nothing.
+use mathlib.Core.Path.{_≡_, sym, ap, _∙_, subst}
+use mathlib.Core.Bool.{false}
+use mathlib.Core.List.{List, [], _∷_, _++_}
+use mathlib.Core.Logic.{_↔_}
+use Prim.Native.Nat.{ℕ, _+_, _≤_, _<_}
+use native.Mathlib.Omega.{arith}
+use borrow.Author.Tests.{ltb-true, ltb-false, leb-true, leb-false, eqb-false}
+use lib.Dec.{ltb, leb, eqb}
+use lib.IntN.{pos, natAbs}
+use lib.ListN.{length}
+use Rattle.terms.specs.Outcome.{accepted, after}
+use Rattle.terms.specs.Numbers.{sum, AllUpTo}
+use Rattle.terms.specs.Limits.{mostErrors}
+use Rattle.terms.proofs.Outcomes.{never, after-accepted, Gives, gives-after, gives-among}
+use Rattle.terms.proofs.Tests.{by-test}
+use Rattle.factors.specs.declared.Level.{Level}
+use Rattle.factors.specs.Levels.{levelOf}
+use Rattle.factors.proofs.Percents.{level-gives}
+use Rattle.ledger.specs.Ledger.{ledgerOf}
+use Rattle.ledger.proofs.Laws.{good, ledgerNumbers, ledger-gives}
+use Rattle.split.specs.declared.Figures.{Figures}
+use Rattle.draw.specs.Draw.{figuresFor}
+use Rattle.draw.proofs.Laws.{start-facts, drawNumbers, figures-give}
+use Rattle.project.specs.declared.Line.{Line}
+use Rattle.project.specs.declared.Projection.{Projection}
+use Rattle.project.specs.Lines.{linesOf, projectionOf, amountsOf}
+use Rattle.project.specs.Project.{checkedLines, projectionAt, projectOf}
+use Rattle.project.proofs.Passing.{all-passed}
+use Rattle.project.proofs.Laws.{checked-lines, project-from, projectNumbers, checked-gives}
+use Rattle.precision.specs.Precision.{precisionOf, precisionCents}
+use Rattle.precision.proofs.Rounded.{never-negative, no-interval}
+use Rattle.judge.specs.declared.Verdict.{Verdict}
+use Rattle.judge.specs.declared.Verdict.the-variants.{Below, Inconclusive, Above}
+use Rattle.judge.specs.declared.Judgement.{Judgement}
+use Rattle.judge.specs.Judge.{verdictOf, concluded, judgedLines, judgedAt, judgedFigures, outOfRange, judgedTotal, judgedLedger, judgeOf}
+use Rattle.judge.proofs.Answer.{is-above, is-below, is-inconclusive}
+
+-- what an accepted judgement gives
+pub record JudgeFacts (percent : ℕ) (ledger : List ℕ) (n start : ℕ) (errors : List ℕ) (te : ℕ) (j : Judgement) : Type 0 where
+  pub level : Level
+  pub named : levelOf percent ≡ accepted level
+  pub some : 0 < te
+  pub within : te ≤ sum ledger
+  -- the projection is the projection's own answer on the same inputs
+  pub projected : projectOf ledger n start errors ≡ accepted (j .projection)
+  pub few : j .projection .m ≤ mostErrors
+  pub figures : Figures
+  pub started : figuresFor ledger n start (length errors) ≡ accepted figures
+  -- the signed precision of the lines' amounts is the one in the answer, so it is never negative
+  pub signed : pos (j .precision) ≡ precisionOf level (figures .interval) (amountsOf (linesOf (figures .interval) start ledger errors))
+  pub none : figures .interval ≡ 0 → j .precision ≡ 0
+  pub limit : j .«upper_limit» ≡ j .projection .full + j .projection .sampled + j .precision
+  pub verdict : j .verdict ≡ verdictOf te (j .projection .full + j .projection .sampled) (j .«upper_limit»)
+
+-- TE is in its range
+in-range : (te total : ℕ) → outOfRange te total ≡ false → (0 < te) × (te ≤ total)
+in-range te total =
+    by-test (λ b. b ≡ false → (0 < te) × (te ≤ total)) (eqb te 0) (λ t e. let z : _≡_ {A = ℕ} 0 1 = cc in absurd (omega arith))
+    (λ t e. let some = eqb-false te 0 t in (omega arith, ltb-false total te e))
+
+-- no interval, no precision
+no-precision : (level : Level) (J : ℕ) (amounts : List ℕ) → length amounts < 64 → AllUpTo J amounts → J ≡ 0 → precisionCents level J amounts ≡ 0
+no-precision level J amounts few all z =
+    ap (λ (j : ℕ). precisionCents level j amounts) z ∙ ap natAbs (no-interval level amounts few (subst (λ (j : ℕ). AllUpTo j amounts) z all))
+
+-- the lines of a judgement, once the figures for its start are known
+module _ (level : Level) (ledger : List ℕ) (n start : ℕ) (errors : List ℕ) (te : ℕ) (f : Figures) (started : figuresFor ledger n start (length errors) ≡ accepted f) where
+  abbrev lines : List Line
+  lines = linesOf (f .interval) start ledger errors
+
+  record OfLines (j : Judgement) : Type 0 where
+    checked : checkedLines (f .interval) start ledger errors ≡ accepted lines
+    few : projectionOf lines .m ≤ mostErrors
+    answer : concluded te (projectionOf lines) (precisionCents level (f .interval) (amountsOf lines)) ≡ j
+
+  of-lines : (j : Judgement) → judgedAt level ledger start errors te (f .interval) ≡ accepted j → OfLines j
+  unfolding judgedAt judgedLines checkedLines
+  of-lines j e =
+      let a = after-accepted (judgedLines level te (f .interval)) (checkedLines (f .interval) start ledger errors) j e in
+      let same : a .0 ≡ lines = checked-lines 0 lines (a .0) (a .1) in
+      by-test (λ o. o ≡ accepted j → OfLines j) (ltb mostErrors (projectionOf lines .m)) (λ t g. never g)
+      (λ t g. record { checked = a .1 ∙ ap accepted same; few = ltb-false _ _ t; answer = cc })
+      (sym (ap (judgedLines level te (f .interval)) same) ∙ a .2)
+
+  -- the projection's answer at these figures
+  same-projection : {j : Judgement} → OfLines j → projectOf ledger n start errors ≡ accepted (projectionOf lines)
+  unfolding projectionAt
+  same-projection o = sym (project-from ledger n start errors f (sym started)) ∙ ap (after (λ good. accepted (projectionOf good))) (o .checked)
+
+  -- the amounts are fewer than 64 and none is above the interval
+  amounts-known : {j : Judgement} → OfLines j → (length (amountsOf lines) < 64) × AllUpTo (f .interval) (amountsOf lines)
+  amounts-known o =
+      let last = all-passed (f .interval) start ledger errors (start-facts ledger n start (length errors) f started .early) lines (o .checked) in
+      (omega (arith, last .1 .amounts .count, o .few), last .1 .amounts .each)
+
+  pub judge-facts-at : (percent total : ℕ) (j : Judgement) → levelOf percent ≡ accepted level → ledgerOf ledger (length errors) ≡ accepted total → outOfRange te total ≡ false →
+      judgedAt level ledger start errors te (f .interval) ≡ accepted j → JudgeFacts percent ledger n start errors te j
+  unfolding concluded
+  judge-facts-at percent total j named judged range e =
+      let o = of-lines j e in
+      let g = good ledger (length errors) total judged in
+      let t = in-range te total range in
+      let known = amounts-known o in
+      let same : projectionOf lines ≡ j .projection = ap (λ (k : Judgement). k .projection) (o .answer) in
+      let precision : precisionCents level (f .interval) (amountsOf lines) ≡ j .precision = ap (λ (k : Judgement). k .precision) (o .answer) in
+      let sums : projectionOf lines .full + projectionOf lines .sampled ≡ j .projection .full + j .projection .sampled = ap (λ (p : Projection). p .full + p .sampled) same in
+      let limit : j .«upper_limit» ≡ j .projection .full + j .projection .sampled + j .precision =
+      omega (arith, sums, precision, ap (λ (k : Judgement). k .«upper_limit») (o .answer)) in
+      record {
+        level = level;
+        named = named;
+        some = t .0;
+        within = omega (arith, t .1, g .added);
+        projected = same-projection o ∙ ap accepted same;
+        few = omega (arith, o .few, ap (λ (p : Projection). p .m) same);
+        figures = f;
+        started = started;
+        signed = sym (never-negative level (f .interval) (amountsOf lines) (known .0) (known .1) ∙ ap pos precision);
+        none = λ z. sym precision ∙ no-precision level (f .interval) (amountsOf lines) (known .0) (known .1) z;
+        limit = limit;
+        verdict = sym (ap (λ (k : Judgement). k .verdict) (o .answer)) ∙ (λ i. verdictOf te (sums i) (ap (λ (k : Judgement). k .«upper_limit») (o .answer) i));
+      }
+
+pub judge-facts : (percent : ℕ) (ledger : List ℕ) (n start : ℕ) (errors : List ℕ) (te : ℕ) (j : Judgement) → judgeOf percent ledger n start errors te ≡ accepted j → JudgeFacts percent ledger n start errors te j
+unfolding judgeOf judgedLedger judgedFigures
+judge-facts percent ledger n start errors te j e =
+    let a = after-accepted (judgedLedger ledger n start errors te) (levelOf percent) j e in
+    let level = a .0 in
+    let b = after-accepted (judgedTotal level ledger n start errors te) (ledgerOf ledger (length errors)) j (a .2) in
+    by-test (λ o. o ≡ accepted j → JudgeFacts percent ledger n start errors te j) (outOfRange te (b .0)) (λ t g. never g)
+    (λ t g. let c = after-accepted (λ figures. judgedAt level ledger start errors te (figures .interval)) (figuresFor ledger n start (length errors)) j g in
+    judge-facts-at level ledger n start errors te (c .0) (c .1) percent (b .0) j (a .1) (b .1) t (c .2)) (b .2)
+
+-- a number for each verdict, by which two of them differ
+abbrev verdictNumber : Verdict → ℕ
+verdictNumber Below = 0
+verdictNumber Inconclusive = 1
+verdictNumber Above = 2
+
+-- when each verdict is given
+module _ (te projected limit : ℕ) where
+  by-verdict : (P : Verdict → Type 0) → (te < projected → P Above) → (projected ≤ te → limit ≤ te → P Below) → (projected ≤ te → te < limit → P Inconclusive) →
+      P (verdictOf te projected limit)
+  unfolding verdictOf
+  by-verdict P above below inconclusive =
+      by-test P (ltb te projected) (λ t. above (ltb-true _ _ t))
+      (λ t. by-test P (leb limit te) (λ u. below (ltb-false _ _ t) (leb-true _ _ u)) (λ u. inconclusive (ltb-false _ _ t) (leb-false _ _ u)))
+
+  pub above-exactly : (verdictOf te projected limit ≡ Above) ↔ (te < projected)
+  above-exactly = (
+    by-verdict (λ v. v ≡ Above → te < projected) (λ h e. h) (λ h l e. omega (arith, ap verdictNumber e)) (λ h l e. omega (arith, ap verdictNumber e)),
+    λ h. sym (is-above te projected limit h),
+  )
+
+  pub below-exactly : (verdictOf te projected limit ≡ Below) ↔ ((projected ≤ te) × (limit ≤ te))
+  below-exactly = (
+    by-verdict (λ v. v ≡ Below → (projected ≤ te) × (limit ≤ te)) (λ h e. omega (arith, ap verdictNumber e)) (λ h l e. (h, l)) (λ h l e. omega (arith, ap verdictNumber e)),
+    λ h. sym (is-below te projected limit (h .0) (h .1)),
+  )
+
+  pub inconclusive-exactly : (verdictOf te projected limit ≡ Inconclusive) ↔ ((projected ≤ te) × (te < limit))
+  inconclusive-exactly = (
+    by-verdict (λ v. v ≡ Inconclusive → (projected ≤ te) × (te < limit)) (λ h e. omega (arith, ap verdictNumber e)) (λ h l e. omega (arith, ap verdictNumber e)) (λ h l e. (h, l)),
+    λ h. sym (is-inconclusive te projected limit (h .0) (h .1)),
+  )
+
+-- the refusals that the judgement gives
+abbrev pub judgeNumbers : List ℕ
+judgeNumbers = projectNumbers ++ (1 ∷ 6 ∷ 16 ∷ [])
+
+module _ (level : Level) (ledger : List ℕ) (n start : ℕ) (errors : List ℕ) (te : ℕ) where
+  lines-give : (J : ℕ) → Gives judgeNumbers (judgedAt level ledger start errors te J)
+  unfolding judgedAt judgedLines checkedLines
+  lines-give J =
+      gives-after judgeNumbers (judgedLines level te J) (checkedLines J start ledger errors)
+      (gives-among projectNumbers judgeNumbers tt (checkedLines J start ledger errors) (checked-gives 0 (linesOf J start ledger errors)))
+      (λ good. by-test (Gives judgeNumbers) (ltb mostErrors (projectionOf good .m)) (λ t. tt) (λ t. tt))
+
+  level-known-gives : Gives judgeNumbers (judgedLedger ledger n start errors te level)
+  unfolding judgedLedger judgedFigures
+  level-known-gives =
+      gives-after judgeNumbers (judgedTotal level ledger n start errors te) (ledgerOf ledger (length errors)) (gives-among ledgerNumbers judgeNumbers tt (ledgerOf ledger (length errors)) (ledger-gives ledger (length errors)))
+      (λ total. by-test (Gives judgeNumbers) (outOfRange te total) (λ t. tt)
+      (λ t. gives-after judgeNumbers (λ figures. judgedAt level ledger start errors te (figures .interval)) (figuresFor ledger n start (length errors))
+      (gives-among drawNumbers judgeNumbers tt (figuresFor ledger n start (length errors)) (figures-give ledger n start (length errors)))
+      (λ figures. lines-give (figures .interval))))
+
+pub judge-gives : (percent : ℕ) (ledger : List ℕ) (n start : ℕ) (errors : List ℕ) (te : ℕ) → Gives judgeNumbers (judgeOf percent ledger n start errors te)
+unfolding judgeOf
+judge-gives percent ledger n start errors te =
+    gives-after judgeNumbers (judgedLedger ledger n start errors te) (levelOf percent) (gives-among (1 ∷ []) judgeNumbers tt (levelOf percent) (level-gives percent))
+    (λ level. level-known-gives level ledger n start errors te)

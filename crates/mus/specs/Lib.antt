@@ -1,0 +1,3 @@
+pub mod Seen
+pub mod Results
+pub mod File

@@ -1,0 +1,10 @@
+-- What the proofs of several functions use, and what callers cite.
+pub mod Following
+pub mod Accepted
+pub mod Items
+pub mod Room
+pub mod Reading
+pub mod Paging
+pub mod FirstBytes
+pub mod OneText
+pub mod Worked

@@ -1,0 +1,40 @@
+-- The text of the steps' outcome, and the page that is too short and the one that is not. Assumes nothing.
+use Prim.Native.Nat.{ℕ, _≤_, _<_}
+use mathlib.Core.Path.{_≡_, sym, ap, _∙_}
+use mathlib.Core.List.{List, _++_}
+use borrow.Author.Tests.{lt-ltb, le-ltb}
+use lib.ListN.{length, drop}
+use Rattle.terms.specs.declared.Refusal.the-variants.{RoomTooShort}
+use Rattle.terms.specs.Outcome.{Outcome, accepted, refused, left}
+use Rattle.pen.specs.Page as Page
+use Rattle.workfile.specs.declared.Plan.{Plan}
+use Rattle.sheet.specs.declared.Answers.{Answers}
+use Rattle.sheet.specs.declared.SheetAnswer.the-variants.{Printed, Refused}
+use Rattle.sheet.specs.Steps.{stepsOf}
+use Rattle.sheet.specs.Lines.{answersText}
+use Rattle.sheet.specs.Sheet.{textBy, stepsText, sheetText, longestText, sheetOf, SheetPromise}
+
+pub steps-text : (plan : Plan) (words ledger errors : List ℕ) {o : Outcome Answers} → o ≡ stepsOf plan words ledger errors →
+    stepsText plan words ledger errors ≡ textBy (answersText ledger errors) o
+unfolding stepsText
+steps-text plan words ledger errors e = ap (textBy (answersText ledger errors)) (sym e)
+
+module _ (file page : List ℕ) where
+  short : length page < longestText → sheetOf file (length page) ≡ refused 18 longestText
+  unfolding sheetOf
+  short h = simp (lt-ltb _ _ h)
+
+  long : longestText ≤ length page → sheetOf file (length page) ≡ accepted (length (sheetText file))
+  unfolding sheetOf
+  long h = simp (le-ltb _ _ h)
+
+  pub page-short : length page < longestText → SheetPromise file page (Refused (RoomTooShort longestText)) page
+  page-short h =
+      record { answer = sym (short h); page-left = sym (ap (left (λ bytes. sheetText file ++ drop bytes page) page) (short h)) }
+
+  pub page-long : longestText ≤ length page → (r : ℕ) (page′ : List ℕ) → Page.Printed (sheetText file) page r page′ → SheetPromise file page (Printed r) page′
+  page-long h r page′ p =
+      record {
+        answer = ap accepted (p .counted) ∙ sym (long h);
+        page-left = p .whole ∙ sym (ap (left (λ bytes. sheetText file ++ drop bytes page) page) (long h));
+      }

@@ -1,0 +1,100 @@
+-- `sheet::print_file` meets its contract: the line of refusal 17, or the text of the content that was read. Assumes nothing.
+use native.Mathlib.Omega.{arith}
+use mathlib.Core.Path.{ap}
+use lib.ListN.{length}
+use Rattle.pen.proofs.Writing.{as-text}
+use Rattle.sheet.proofs.Reading.{desk-rooms, file-refused, AtRead, words-long, values-long, errors-long, words-few, lines-few, file-read}
+use borrow.Author.Needs.{needs}
+use Rattle.sheet.proofs.print_file.Statement.{statement}
+use Rattle.sheet.proofs.print_file.Tie as tie
+
+-- what the match has found is what was read
+at-read : (c : tie.After-contents) → let at = c .before .before .before .before .before in
+    AtRead (at .before .before .before .before .before .before .args .file .now) (c .contents .given .0 .0) (at .read .last .1 .0) (at .read .last .1 .1 .0) (at .read .last .1 .1 .1 .0)
+at-read c = let at = c .before .before .before .before .before in record { words = _; values = _; errors = _; answer = _; rooms = desk-rooms; promise = at .read .ensures; told = c .contents .given .1 }
+
+slice-aggregate-read : tie.Need-slice-aggregate-read
+slice-aggregate-read c = search needs
+
+slice-aggregate-read-2 : tie.Need-slice-aggregate-read-2
+slice-aggregate-read-2 c = search needs
+
+slice-aggregate-read-3 : tie.Need-slice-aggregate-read-3
+slice-aggregate-read-3 c = search needs
+
+read-requires : tie.Need-read-requires
+read-requires c κs = search needs
+
+enum-known-why : tie.Need-enum-known-why
+enum-known-why c = search needs
+
+refused-line-requires : tie.Need-refused-line-requires
+refused-line-requires c κs = search needs
+
+enum-known-contents : tie.Need-enum-known-contents
+enum-known-contents c = search needs
+
+array-share-prefix-words : tie.Need-array-share-prefix-words
+array-share-prefix-words c = omega (arith, words-few (at-read (c .before .before)))
+
+slice-aggregate-print-content : tie.Need-slice-aggregate-print-content
+slice-aggregate-print-content c = words-long (at-read (c .before .before .before))
+
+array-share-prefix-values : tie.Need-array-share-prefix-values
+array-share-prefix-values c = omega (arith, lines-few (at-read (c .before .before .before)))
+
+slice-aggregate-print-content-2 : tie.Need-slice-aggregate-print-content-2
+slice-aggregate-print-content-2 c = values-long (at-read (c .before .before .before .before))
+
+array-share-prefix-errors : tie.Need-array-share-prefix-errors
+array-share-prefix-errors c = omega (arith, lines-few (at-read (c .before .before .before .before)))
+
+slice-aggregate-print-content-3 : tie.Need-slice-aggregate-print-content-3
+slice-aggregate-print-content-3 c = errors-long (at-read (c .before .before .before .before .before))
+
+print-content-requires : tie.Need-print-content-requires
+print-content-requires c κs = search needs
+
+same-length : tie.Need-same-length
+same-length c = search needs
+
+returns : tie.Need-returns
+returns c =
+    let why = c .before .before .before .before .before in
+    let at = why .before .before .before .before .before in
+    let same = file-refused desk-rooms (at .read .ensures) _ (why .why .given .1) in
+    let line = c .before .before .refused-line .ensures in
+    (as-text same (line .0), omega (arith, ap length same, line .1))
+
+same-length-2 : tie.Need-same-length-2
+same-length-2 c = search needs
+
+returns-2 : tie.Need-returns-2
+returns-2 c =
+    let at = at-read (c .before .before .before .before .before .before .before .before) in
+    let same = file-read at in
+    let text = c .before .before .print-content .ensures in
+    (as-text same (text .0), omega (arith, ap length same, text .1, values-long at, lines-few at))
+
+pub print-file-spec : {M : Type 1} → statement M
+print-file-spec =
+    tie.close
+    (tie.spec
+    slice-aggregate-read
+    slice-aggregate-read-2
+    slice-aggregate-read-3
+    read-requires
+    enum-known-why
+    refused-line-requires
+    enum-known-contents
+    array-share-prefix-words
+    slice-aggregate-print-content
+    array-share-prefix-values
+    slice-aggregate-print-content-2
+    array-share-prefix-errors
+    slice-aggregate-print-content-3
+    print-content-requires
+    same-length
+    returns
+    same-length-2
+    returns-2)

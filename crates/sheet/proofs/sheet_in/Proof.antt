@@ -1,0 +1,25 @@
+-- `sheet::sheet_in` meets its contract: 18, or the text on a page that has room for every text. Assumes nothing.
+use native.Mathlib.Omega.{arith}
+use Rattle.pen.proofs.Writing.{printed}
+use Rattle.sheet.proofs.Paging.{page-short, page-long}
+use borrow.Author.Needs.{needs}
+use Rattle.sheet.proofs.sheet_in.Statement.{statement}
+use Rattle.sheet.proofs.sheet_in.Tie as tie
+
+returns : tie.Need-returns
+returns c = page-short _ _ (c .if1 .taken)
+
+print-file-requires : tie.Need-print-file-requires
+print-file-requires c κs = search needs
+
+same-length : tie.Need-same-length
+same-length c = search needs
+
+returns-2 : tie.Need-returns-2
+returns-2 c =
+    let text = c .before .before .print-file .ensures in
+    let long = c .before .before .before .before .if1 .left in
+    page-long _ _ long _ _ (printed _ _ _ _ (omega (arith, text .1)) (text .0))
+
+pub sheet-in-spec : {M : Type 1} → statement M
+sheet-in-spec = tie.close (tie.spec returns print-file-requires same-length returns-2)

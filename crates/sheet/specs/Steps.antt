@@ -1,0 +1,59 @@
+-- The steps in the desk program's order, from the content of a working file: each after the refusals of those before it.
+-- These are definitions: nothing is assumed.
+use Prim.Native.Nat.{ℕ}
+use mathlib.Core.List.{List}
+use lib.ListN.{length}
+use Rattle.terms.specs.Outcome.{Outcome, accepted, refusedBy, after}
+use Rattle.factors.specs.Levels.{levelOf}
+use Rattle.ledger.specs.Ledger.{ledgerOf}
+use Rattle.size.specs.Size.{sizeOf}
+use Rattle.split.specs.declared.Figures.{Figures}
+use Rattle.split.specs.Split.{splitOf}
+use Rattle.start.specs.declared.Chosen.{Chosen}
+use Rattle.start.specs.Start.{startOf}
+use Rattle.judge.specs.declared.Judgement.{Judgement}
+use Rattle.judge.specs.Judge.{judgeOf}
+use Rattle.workfile.specs.declared.Plan.{Plan}
+use Rattle.sheet.specs.declared.Planned.{Planned}
+use Rattle.sheet.specs.declared.Answers.{Answers}
+use Rattle.sheet.specs.declared.StepsAnswer.{StepsAnswer}
+use Rattle.sheet.specs.declared.StepsAnswer.the-variants.{Answered, Refused}
+
+-- what the steps' answer says: every figure of the sheet, or a refusal's number and place
+abbrev pub stepsSays : StepsAnswer → Outcome Answers
+stepsSays (Answered answers) = accepted answers
+stepsSays (Refused why) = refusedBy why
+
+-- the plan with the ledger's total and the number of draws
+abbrev pub plannedWith : Plan → ℕ → ℕ → Planned
+plannedWith plan total draws = record { level = plan .level; total = total; te = plan .te; ae = plan .ae; draws = draws }
+
+abbrev pub answersWith : Planned → Figures → Chosen → Judgement → Answers
+answersWith planned figures chosen judgement = record { planned = planned; figures = figures; chosen = chosen; judgement = judgement }
+
+-- the judgement: 14 and 15 line by line, then 16
+unfoldable pub judgedFrom : Planned → List ℕ → List ℕ → Figures → Chosen → Outcome Answers
+judgedFrom planned ledger errors figures chosen =
+    after (λ judgement. accepted (answersWith planned figures chosen judgement))
+    (judgeOf (planned .level) ledger (planned .draws) (chosen .start) errors (planned .te))
+
+-- the random start: 12
+unfoldable pub startedFrom : Planned → List ℕ → List ℕ → List ℕ → Figures → Outcome Answers
+startedFrom planned words ledger errors figures = after (judgedFrom planned ledger errors figures) (startOf (figures .interval) words)
+
+-- the split: 8, 9, 10
+unfoldable pub splitFrom : Planned → List ℕ → List ℕ → List ℕ → Outcome Answers
+splitFrom planned words ledger errors = after (startedFrom planned words ledger errors) (splitOf ledger (planned .draws) (length errors))
+
+-- the number of draws: 6, 7
+unfoldable pub sizedFrom : Plan → List ℕ → List ℕ → List ℕ → ℕ → Outcome Answers
+sizedFrom plan words ledger errors total =
+    after (λ draws. splitFrom (plannedWith plan total draws) words ledger errors) (sizeOf (plan .level) total (plan .te) (plan .ae))
+
+-- the ledger: 2, 13, then 3 and 4 line by line, then 5
+unfoldable pub totalledFrom : Plan → List ℕ → List ℕ → List ℕ → Outcome Answers
+totalledFrom plan words ledger errors = after (sizedFrom plan words ledger errors) (ledgerOf ledger (length errors))
+
+-- the level: 1
+unfoldable pub stepsOf : Plan → List ℕ → List ℕ → List ℕ → Outcome Answers
+stepsOf plan words ledger errors = after (λ level. totalledFrom plan words ledger errors) (levelOf (plan .level))

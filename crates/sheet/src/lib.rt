@@ -1,0 +1,116 @@
+// The desk program's whole text, from the bytes of a working file.
+mod lines; // lines.rt: the lines of the sheet
+mod steps; // steps.rt: the steps, one after the other
+
+use judge::Judgement;
+use pen::Pen;
+use split::Figures;
+use start::Chosen;
+use terms::Refusal;
+use workfile::Plan;
+use workfile::ReadAnswer;
+ghost use Prim.Native.Nat.{_+_, _*_, _≤_};
+ghost use lib.ListN.{length};
+ghost use Rattle.pen.specs.Page.{Wrote, Printed};
+ghost use Rattle.sheet.specs.Sheet.{stepsText, sheetText, longestText, SheetPromise};
+
+// No text is longer.
+pub const LONGEST_TEXT: usize = 184_721;
+
+// The text of an input is decided by so many of its first bytes (`first-bytes` of proofs/FirstBytes.antt).
+pub const DECIDING_BYTES: usize = workfile::LONGEST_FILE + 1;
+
+// The plan, with the ledger's total and the number of draws.
+pub struct Planned {
+    pub level: u8,
+    pub total: u64,
+    pub te: u64,
+    pub ae: u64,
+    pub draws: u64,
+}
+
+// What the steps have answered: every figure of the sheet but the lines.
+pub struct Answers {
+    pub planned: Planned,
+    pub figures: Figures,
+    pub chosen: Chosen,
+    pub judgement: Judgement,
+}
+
+pub enum StepsAnswer {
+    Answered(Answers),
+    Refused(Refusal),
+}
+
+// How many bytes were printed, or that the page is too short.
+pub enum SheetAnswer {
+    Printed(u64),
+    Refused(Refusal),
+}
+
+// The text of a file's content.
+fn print_content(
+    pen: Pen,
+    page: &mut [u8],
+    plan: Plan,
+    words: &[u64],
+    ledger: &[u64],
+    errors: &[u64],
+) -> Pen
+    ensures { λ r. ⌜ Wrote (now (page .entry)) (pen .at) (stepsText plan (now (words .entry)) (now (ledger .entry)) (now (errors .entry))) (now (page .exit)) (r .at) ⌝ }
+    ensures { λ r. ⌜ length (stepsText plan (now (words .entry)) (now (ledger .entry)) (now (errors .entry))) ≤ 401 + 90 * length (now (ledger .entry)) ⌝ }
+{
+    match steps::answers(plan, words, ledger, errors) {
+        StepsAnswer::Refused(why) => lines::refused_line(pen, page, why),
+        StepsAnswer::Answered(answers) => lines::answers_text(pen, page, answers, ledger, errors),
+    }
+}
+
+// The text of a file.
+fn print_file(pen: Pen, page: &mut [u8], file: &[u8]) -> Pen
+    ensures { λ r. ⌜ Wrote (now (page .entry)) (pen .at) (sheetText (now (file .entry))) (now (page .exit)) (r .at) ⌝ }
+    ensures { λ r. ⌜ length (sheetText (now (file .entry))) ≤ longestText ⌝ }
+{
+    let mut words = [0u64; workfile::MOST_WORDS];
+    let mut values = [0u64; workfile::MOST_FILE_LINES];
+    let mut errors = [0u64; workfile::MOST_FILE_LINES];
+    match reader::read(file, &mut words, &mut values, &mut errors) {
+        ReadAnswer::Refused(why) => lines::refused_line(pen, page, why),
+        ReadAnswer::Read(contents) => {
+            let plan = Plan {
+                level: contents.level,
+                te: contents.te,
+                ae: contents.ae,
+            };
+            let count = contents.words as usize;
+            let lines = contents.lines as usize;
+            print_content(
+                pen,
+                page,
+                plan,
+                &words[..count],
+                &values[..lines],
+                &errors[..lines],
+            )
+        }
+    }
+}
+
+// The text of a file at the start of a page that holds every text; answers how many bytes it is.
+pub fn sheet(file: &[u8], page: &mut [u8; LONGEST_TEXT]) -> usize
+    ensures { λ r. ⌜ Printed (sheetText (now (file .entry))) (now (page .entry)) r (now (page .exit)) ⌝ }
+{
+    let end = print_file(Pen { at: 0 }, page, file);
+    end.at
+}
+
+// The same on a page of any length: 18 where it is shorter than the longest text, and then it stays as it is.
+pub fn sheet_in(file: &[u8], page: &mut [u8]) -> SheetAnswer
+    ensures { λ r. ⌜ SheetPromise (now (file .entry)) (now (page .entry)) r (now (page .exit)) ⌝ }
+{
+    if page.len() < LONGEST_TEXT {
+        return SheetAnswer::Refused(Refusal::RoomTooShort(LONGEST_TEXT as u64));
+    }
+    let end = print_file(Pen { at: 0 }, page, file);
+    SheetAnswer::Printed(end.at as u64)
+}

@@ -1,0 +1,150 @@
+// The lines of the sheet, each written from the pen's place on.
+use crate::Answers;
+use crate::Planned;
+use judge::Judgement;
+use judge::Verdict;
+use pen::Pen;
+use project::Line;
+use project::Projection;
+use project::State;
+use split::Figures;
+use start::Chosen;
+use terms::Refusal;
+ghost use Prim.Native.Nat.{_+_, _*_, _≤_};
+ghost use lib.ListN.{length};
+ghost use Rattle.terms.specs.Refusals.{number, place};
+ghost use Rattle.pen.specs.Page.{Wrote};
+ghost use Rattle.sheet.specs.Lines.{planLine, splitLine, startLine, itemText, ledgerText, projectLine, verdictWord, judgeLine, refusedLine, answersText, Printable};
+
+fn plan_line(pen: Pen, page: &mut [u8], planned: Planned) -> Pen
+    ensures { λ r. ⌜ Wrote (now (page .entry)) (pen .at) (planLine planned) (now (page .exit)) (r .at) ⌝ }
+{
+    let level = planned.level as u64;
+    let numbers = [level, planned.total, planned.te, planned.ae, planned.draws];
+    pen.line(page, b"plan", &numbers)
+}
+
+fn split_line(pen: Pen, page: &mut [u8], figures: Figures) -> Pen
+    ensures { λ r. ⌜ Wrote (now (page .entry)) (pen .at) (splitLine figures) (now (page .exit)) (r .at) ⌝ }
+{
+    let numbers = [
+        figures.interval,
+        figures.draws_left,
+        figures.sampled_total,
+        figures.full_lines,
+        figures.full_total,
+    ];
+    pen.line(page, b"split", &numbers)
+}
+
+fn start_line(pen: Pen, page: &mut [u8], chosen: Chosen) -> Pen
+    ensures { λ r. ⌜ Wrote (now (page .entry)) (pen .at) (startLine chosen) (now (page .exit)) (r .at) ⌝ }
+{
+    let numbers = [chosen.start, chosen.words];
+    pen.line(page, b"start", &numbers)
+}
+
+// A drawn or full line; any other has none.
+fn item_line(pen: Pen, page: &mut [u8], item: u64, line: Line) -> Pen
+    ensures { λ r. ⌜ Wrote (now (page .entry)) (pen .at) (itemText item line) (now (page .exit)) (r .at) ⌝ }
+{
+    let state = line.state;
+    match state {
+        State::NotDrawn => pen,
+        State::Drawn(amount) => {
+            let numbers = [item, line.value, line.error, amount];
+            pen.line(page, b"drawn", &numbers)
+        }
+        State::Full => {
+            let numbers = [item, line.value, line.error, line.error];
+            pen.line(page, b"full", &numbers)
+        }
+    }
+}
+
+// The drawn and full lines, in ledger order.
+fn ledger_lines(
+    pen: Pen,
+    page: &mut [u8],
+    ledger: &[u64],
+    errors: &[u64],
+    interval: u64,
+    start: u64,
+) -> Pen
+    requires { ⌜ Printable interval (now ledger) (now errors) ⌝ }
+    ensures { λ r. ⌜ Wrote (now (page .entry)) (pen .at) (ledgerText interval start (now (ledger .entry)) (now (errors .entry))) (now (page .exit)) (r .at) ⌝ }
+{
+    let mut at = pen;
+    let mut next = start;
+    let mut item: usize = 0;
+    while item < ledger.len() {
+        let value = ledger[item];
+        let line = project::line_of(value, errors[item], interval, next);
+        at = item_line(at, page, item as u64, line);
+        next = draw::step_over(value, interval, next);
+        item += 1;
+    }
+    at
+}
+
+fn project_line(pen: Pen, page: &mut [u8], projection: Projection) -> Pen
+    ensures { λ r. ⌜ Wrote (now (page .entry)) (pen .at) (projectLine projection) (now (page .exit)) (r .at) ⌝ }
+{
+    let numbers = [projection.full, projection.sampled, projection.m];
+    pen.line(page, b"project", &numbers)
+}
+
+fn verdict_word(pen: Pen, page: &mut [u8], verdict: Verdict) -> Pen
+    ensures { λ r. ⌜ Wrote (now (page .entry)) (pen .at) (verdictWord verdict) (now (page .exit)) (r .at) ⌝ }
+{
+    match verdict {
+        Verdict::Below => pen.text(page, b"below"),
+        Verdict::Inconclusive => pen.text(page, b"inconclusive"),
+        Verdict::Above => pen.text(page, b"above"),
+    }
+}
+
+fn judge_line(pen: Pen, page: &mut [u8], judgement: Judgement) -> Pen
+    ensures { λ r. ⌜ Wrote (now (page .entry)) (pen .at) (judgeLine judgement) (now (page .exit)) (r .at) ⌝ }
+{
+    let verdict = judgement.verdict;
+    let opened = pen.text(page, b"judge");
+    let precise = opened.field(page, judgement.precision);
+    let limited = precise.field(page, judgement.upper_limit);
+    let spaced = limited.byte(page, 32);
+    let ended = verdict_word(spaced, page, verdict);
+    ended.byte(page, 10)
+}
+
+// The one line of a refusal.
+pub fn refused_line(pen: Pen, page: &mut [u8], why: Refusal) -> Pen
+    ensures { λ r. ⌜ Wrote (now (page .entry)) (pen .at) (refusedLine (number why) (place why)) (now (page .exit)) (r .at) ⌝ }
+    ensures { λ r. ⌜ length (refusedLine (number why) (place why)) ≤ 50 ⌝ }
+{
+    let number = terms::number_of(why);
+    let place = terms::place_of(why);
+    let numbers = [number, place];
+    pen.line(page, b"refused", &numbers)
+}
+
+// The whole sheet of what the steps have answered.
+pub fn answers_text(
+    pen: Pen,
+    page: &mut [u8],
+    answers: Answers,
+    ledger: &[u64],
+    errors: &[u64],
+) -> Pen
+    requires { ⌜ Printable (answers .figures .interval) (now ledger) (now errors) ⌝ }
+    ensures { λ r. ⌜ Wrote (now (page .entry)) (pen .at) (answersText (now (ledger .entry)) (now (errors .entry)) answers) (now (page .exit)) (r .at) ⌝ }
+    ensures { λ r. ⌜ length (answersText (now (ledger .entry)) (now (errors .entry)) answers) ≤ 401 + 90 * length (now (ledger .entry)) ⌝ }
+{
+    let interval = answers.figures.interval;
+    let start = answers.chosen.start;
+    let planned = plan_line(pen, page, answers.planned);
+    let parted = split_line(planned, page, answers.figures);
+    let started = start_line(parted, page, answers.chosen);
+    let listed = ledger_lines(started, page, ledger, errors, interval, start);
+    let projected = project_line(listed, page, answers.judgement.projection);
+    judge_line(projected, page, answers.judgement)
+}

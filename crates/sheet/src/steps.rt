@@ -1,0 +1,108 @@
+// The steps in the desk program's order, each from the answers of those before it.
+use crate::Answers;
+use crate::Planned;
+use crate::StepsAnswer;
+use factors::LevelAnswer;
+use judge::JudgeAnswer;
+use ledger::LedgerAnswer;
+use size::SizeAnswer;
+use split::Figures;
+use split::SplitAnswer;
+use start::Chosen;
+use start::StartAnswer;
+use workfile::Plan;
+ghost use mathlib.Core.Path.{_≡_};
+ghost use Rattle.sheet.specs.Steps.{stepsSays, judgedFrom, startedFrom, splitFrom, sizedFrom, totalledFrom, stepsOf};
+
+// The judgement: 14 and 15 line by line, then 16.
+fn judged(
+    planned: Planned,
+    ledger: &[u64],
+    errors: &[u64],
+    figures: Figures,
+    chosen: Chosen,
+) -> StepsAnswer
+    ensures { λ r. ⌜ stepsSays r ≡ judgedFrom planned (now (ledger .entry)) (now (errors .entry)) figures chosen ⌝ }
+{
+    match judge::judge(
+        planned.level,
+        ledger,
+        planned.draws,
+        chosen.start,
+        errors,
+        planned.te,
+    ) {
+        JudgeAnswer::Refused(why) => StepsAnswer::Refused(why),
+        JudgeAnswer::Judged(judgement) => StepsAnswer::Answered(Answers {
+            planned,
+            figures,
+            chosen,
+            judgement,
+        }),
+    }
+}
+
+// The random start: 12.
+fn started(
+    planned: Planned,
+    words: &[u64],
+    ledger: &[u64],
+    errors: &[u64],
+    figures: Figures,
+) -> StepsAnswer
+    ensures { λ r. ⌜ stepsSays r ≡ startedFrom planned (now (words .entry)) (now (ledger .entry)) (now (errors .entry)) figures ⌝ }
+{
+    match start::start(figures.interval, words) {
+        StartAnswer::Refused(why) => StepsAnswer::Refused(why),
+        StartAnswer::Started(chosen) => judged(planned, ledger, errors, figures, chosen),
+    }
+}
+
+// The split: 8, 9, 10.
+fn parted(planned: Planned, words: &[u64], ledger: &[u64], errors: &[u64]) -> StepsAnswer
+    ensures { λ r. ⌜ stepsSays r ≡ splitFrom planned (now (words .entry)) (now (ledger .entry)) (now (errors .entry)) ⌝ }
+{
+    match split::split_figures(ledger, planned.draws, errors.len()) {
+        SplitAnswer::Refused(why) => StepsAnswer::Refused(why),
+        SplitAnswer::Split(figures) => started(planned, words, ledger, errors, figures),
+    }
+}
+
+// The number of draws: 6, 7.
+fn sized(plan: Plan, words: &[u64], ledger: &[u64], errors: &[u64], total: u64) -> StepsAnswer
+    ensures { λ r. ⌜ stepsSays r ≡ sizedFrom plan (now (words .entry)) (now (ledger .entry)) (now (errors .entry)) total ⌝ }
+{
+    match size::size(plan.level, total, plan.te, plan.ae) {
+        SizeAnswer::Refused(why) => StepsAnswer::Refused(why),
+        SizeAnswer::Draws(draws) => {
+            let planned = Planned {
+                level: plan.level,
+                total,
+                te: plan.te,
+                ae: plan.ae,
+                draws,
+            };
+            parted(planned, words, ledger, errors)
+        }
+    }
+}
+
+// The ledger: 2, 13, then 3 and 4 line by line, then 5.
+fn totalled(plan: Plan, words: &[u64], ledger: &[u64], errors: &[u64]) -> StepsAnswer
+    ensures { λ r. ⌜ stepsSays r ≡ totalledFrom plan (now (words .entry)) (now (ledger .entry)) (now (errors .entry)) ⌝ }
+{
+    match ledger::judge_ledger(ledger, errors.len()) {
+        LedgerAnswer::Refused(why) => StepsAnswer::Refused(why),
+        LedgerAnswer::Total(total) => sized(plan, words, ledger, errors, total),
+    }
+}
+
+// All steps, from the level on: 1.
+pub fn answers(plan: Plan, words: &[u64], ledger: &[u64], errors: &[u64]) -> StepsAnswer
+    ensures { λ r. ⌜ stepsSays r ≡ stepsOf plan (now (words .entry)) (now (ledger .entry)) (now (errors .entry)) ⌝ }
+{
+    match factors::level_of(plan.level) {
+        LevelAnswer::Refused(why) => StepsAnswer::Refused(why),
+        LevelAnswer::Known(_) => totalled(plan, words, ledger, errors),
+    }
+}

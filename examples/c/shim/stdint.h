@@ -1,0 +1,11 @@
+/* The kit's compiler brings no headers: what mus.h and the programs here use of this one. */
+#ifndef SHIM_STDINT_H
+#define SHIM_STDINT_H
+typedef __UINT8_TYPE__ uint8_t;
+typedef __UINT16_TYPE__ uint16_t;
+typedef __UINT32_TYPE__ uint32_t;
+typedef __UINT64_TYPE__ uint64_t;
+typedef __INT64_TYPE__ int64_t;
+#define UINT64_C(number) __UINT64_C(number)
+#define UINT64_MAX __UINT64_MAX__
+#endif

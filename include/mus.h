@@ -1,0 +1,150 @@
+/* Monetary unit sampling in whole cents, conservative approach: the operations of libmus.a, for x86-64 Linux.
+ *
+ * Every function is total: it takes any input and returns a struct by value. `refusal` is 0 where the call is accepted, and then
+ * the figures are the answer. Otherwise `refusal` is a number of enum mus_refusal, `place` says where (a line, a byte, a count;
+ * 0 where the refusal names none), every figure is 0, and every lent buffer keeps its former content. Where several refusals
+ * apply, the first is given in this order: 1, 2, 13; then 3 and 4 line by line; then 5 to 11; then 14 and 15 line by line; then 16.
+ *
+ * Money and numbers of draws are 64-bit, money in whole cents. Lines are numbered from 0. A list is a pointer and a number of entries;
+ * the pointer may be null where that number is 0. Otherwise it is aligned as its type and reaches that many entries. What a pointer
+ * without const reaches overlaps nothing else that is lent to the same call, and no other thread touches it during the call.
+ * No function keeps a pointer, allocates, or has a state of its own: calls from several threads do not disturb each other. */
+#ifndef MUS_H
+#define MUS_H
+
+#include <stddef.h>
+#include <stdint.h>
+
+#ifdef __cplusplus
+extern "C" {
+#endif
+
+/* The largest sizes that are taken. */
+#define MUS_MOST_LINES UINT64_C(1000000)
+#define MUS_MOST_VALUE UINT64_C(10000000000000)
+#define MUS_MOST_TOTAL UINT64_C(1000000000000000)
+#define MUS_MOST_INTERVAL UINT64_C(4000000000)
+#define MUS_MOST_ERRORS UINT64_C(63)
+
+/* A working file: its largest counts, which are also the reader's least rooms, and the length of the longest legal one. */
+#define MUS_MOST_WORDS UINT64_C(64)
+#define MUS_MOST_FILE_LINES UINT64_C(2048)
+#define MUS_LONGEST_FILE UINT64_C(45663)
+
+/* Why a call is refused. The comment names the place where it is not 0. */
+enum mus_refusal {
+    MUS_ACCEPTED = 0,
+    MUS_UNKNOWN_LEVEL = 1,          /* level is none of 99, 95, 90, 85, 80, 75, 70, 60, 50 */
+    MUS_TOO_MANY_LINES = 2,         /* more than MUS_MOST_LINES lines */
+    MUS_VALUE_TOO_LARGE = 3,        /* a book value above MUS_MOST_VALUE; the line */
+    MUS_TOTAL_TOO_LARGE = 4,        /* the running total passes MUS_MOST_TOTAL; the line */
+    MUS_TOTAL_ZERO = 5,             /* the total is 0 */
+    MUS_TOLERANCE_OUT_OF_RANGE = 6, /* TE is 0 or above the total, or AE is above the total */
+    MUS_TOLERANCE_SPENT = 7,        /* 100 x TE is at most AE x EF */
+    MUS_NO_DRAWS = 8,               /* the number of draws is 0 */
+    MUS_DRAWS_USED_UP = 9,          /* the split leaves lines with value and no draws */
+    MUS_INTERVAL_TOO_LARGE = 10,    /* an interval above MUS_MOST_INTERVAL */
+    MUS_START_OUT_OF_RANGE = 11,    /* the start is not below the interval, or not 0 where there is none */
+    MUS_NO_WORD_PASSES = 12,        /* no random word passes; the number of words lent */
+    MUS_LENGTHS_DIFFER = 13,        /* marks or errors differ from the ledger in length */
+    MUS_ERROR_ABOVE_VALUE = 14,     /* an error exceeds its line's value; the line */
+    MUS_ERROR_NOT_DRAWN = 15,       /* an error above 0 on a line not drawn and not full; the line */
+    MUS_TOO_MANY_ERRORS = 16,       /* more than MUS_MOST_ERRORS drawn lines with an error */
+    MUS_FILE_BREAKS_RULE = 17,      /* the working file breaks a rule; the byte */
+    MUS_ROOM_TOO_SHORT = 18,        /* a lent file buffer is too short; the bytes or entries needed */
+    MUS_NO_LEGAL_FILE = 19          /* the content has no legal file */
+};
+
+/* What a mark says of its line. */
+enum mus_mark { MUS_NOT_DRAWN = 0, MUS_DRAWN = 1, MUS_FULL = 2 };
+
+/* What a judgement says. 0 is none of them: the call was refused. */
+enum mus_verdict { MUS_BELOW = 1, MUS_INCONCLUSIVE = 2, MUS_ABOVE = 3 };
+
+struct mus_size_result {
+    uint64_t refusal, place;
+    uint64_t draws; /* the number of draws */
+};
+
+struct mus_split_result {
+    uint64_t refusal, place;
+    uint64_t interval;      /* the final interval J; 0 where nothing is sampled */
+    uint64_t draws_left;    /* the draws that the full lines leave */
+    uint64_t sampled_total; /* the total of the lines that are not full */
+    uint64_t full_lines;    /* the number of full lines */
+    uint64_t full_total;    /* their total */
+};
+
+struct mus_start_result {
+    uint64_t refusal, place;
+    uint64_t start; /* the start, below the interval */
+    uint64_t words; /* how many words were read, the accepted one included */
+};
+
+struct mus_draw_result {
+    uint64_t refusal, place;
+    uint64_t drawn; /* how many lines are marked MUS_DRAWN */
+};
+
+struct mus_project_result {
+    uint64_t refusal, place;
+    uint64_t full;    /* the errors of the full lines, added */
+    uint64_t sampled; /* the projected amounts of the drawn lines, added */
+    uint64_t m;       /* the number of drawn lines with an error above 0 */
+};
+
+struct mus_judge_result {
+    uint64_t refusal, place;
+    uint64_t full, sampled, m; /* the projection */
+    uint64_t precision;
+    uint64_t upper_limit; /* full + sampled + precision */
+    uint64_t verdict;     /* one of enum mus_verdict */
+};
+
+struct mus_read_result {
+    uint64_t refusal, place;
+    uint64_t level, te, ae;
+    uint64_t words; /* how many entries of words were written */
+    uint64_t lines; /* how many entries of values, and of errors, were written */
+};
+
+struct mus_write_result {
+    uint64_t refusal, place;
+    uint64_t length; /* how many bytes were written */
+};
+
+/* The number of draws for a level in percent, a total, the tolerable error TE and the anticipated error AE. Refusals 1, 4, 5, 6, 7. */
+struct mus_size_result mus_size(uint8_t level, uint64_t total, uint64_t te, uint64_t ae);
+
+/* The split of a ledger for n draws into full lines, above the final interval, and the others. Writes a mark for each line, MUS_FULL
+ * or MUS_NOT_DRAWN. Refusals 2, 13, 3, 4, 5, 8, 9, 10. */
+struct mus_split_result mus_split(const uint64_t *ledger, size_t ledger_length, uint64_t n, uint8_t *marks, size_t marks_length);
+
+/* The random start below an interval: the low bits of the first random word that gives a value below it. An interval of 0 or 1
+ * reads no word. Refusals 10, 12. */
+struct mus_start_result mus_start(uint64_t interval, const uint64_t *words, size_t words_length);
+
+/* The draw of a ledger for n draws from a start. Writes a mark for each line, MUS_NOT_DRAWN, MUS_DRAWN or MUS_FULL. Refusals
+ * 2, 13, 3, 4, 5, 8, 9, 10, 11. */
+struct mus_draw_result mus_draw(const uint64_t *ledger, size_t ledger_length, uint64_t n, uint64_t start, uint8_t *marks, size_t marks_length);
+
+/* The projection of the errors that were found: an entry for each line, 0 where there is none. A full line counts with its error, a
+ * drawn line with error x interval / value, rounded up. Refusals 2, 13, 3, 4, 5, 8, 9, 10, 11, 14, 15. */
+struct mus_project_result mus_project(const uint64_t *ledger, size_t ledger_length, uint64_t n, uint64_t start, const uint64_t *errors, size_t errors_length);
+
+/* The judgement: the projection with its precision at a level, its upper limit, and the verdict against the tolerable error TE.
+ * Refusals 1, 2, 13, 3, 4, 5, 6, 8, 9, 10, 11, 14, 15, 16. */
+struct mus_judge_result mus_judge(uint8_t level, const uint64_t *ledger, size_t ledger_length, uint64_t n, uint64_t start, const uint64_t *errors, size_t errors_length, uint64_t te);
+
+/* Reads a working file. words has room for at least MUS_MOST_WORDS entries, values and errors for at least MUS_MOST_FILE_LINES; entries
+ * past those read stay as they were, and a line without an error gets error 0. Refusals 18, 17. */
+struct mus_read_result mus_read(const uint8_t *file, size_t file_length, uint64_t *words, size_t words_length, uint64_t *values, size_t values_length, uint64_t *errors, size_t errors_length);
+
+/* Writes the working file of a content. errors has an entry for each value; MUS_LONGEST_FILE bytes are room for any file, and bytes
+ * past the file stay as they were. Refusals 13, 19, 18. */
+struct mus_write_result mus_write(uint8_t level, uint64_t te, uint64_t ae, const uint64_t *words, size_t words_length, const uint64_t *values, size_t values_length, const uint64_t *errors, size_t errors_length, uint8_t *file, size_t file_length);
+
+#ifdef __cplusplus
+}
+#endif
+#endif

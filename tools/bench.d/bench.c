@@ -1,0 +1,175 @@
+/* One row of tools/bench: sets an operation's input up, then calls it 0 times or once (what to count instructions of), or times it, or
+ * measures the stack that it needs.
+ *
+ *     bench ROW LINES calls 0|1     bench ROW LINES time     bench ROW LINES stack */
+#include <stdint.h>
+#include <stdio.h>
+#include <string.h>
+#include <time.h>
+
+#include "mus.h"
+
+#define MOST 1000000
+
+static uint64_t ledger[MOST], errors[MOST], words[64], values_room[2048], errors_room[2048], words_room[64];
+static uint8_t marks[MOST], file[MUS_LONGEST_FILE];
+static size_t lines;
+static uint64_t draws, start, te, seed = 1;
+static volatile uint64_t kept; /* so that no call is left out */
+
+static uint64_t next_random(uint64_t below)
+{
+    seed = seed * UINT64_C(6364136223846793005) + UINT64_C(1442695040888963407);
+    return (seed >> 33) % below;
+}
+
+/* Lines of 10 to 100 in currency, a draw for every hundred of them: none is full, so that the split makes one round. */
+static void plain_ledger(void)
+{
+    for (size_t i = 0; i < lines; i++) ledger[i] = 1000 + next_random(9001);
+    draws = lines / 100;
+    start = 1234;
+}
+
+/* The same with a few long lines, each of which is above the interval of one round and not of the round before: so many rounds. */
+static void ledger_of_rounds(unsigned rounds)
+{
+    uint64_t added = 0, former = 0;
+    plain_ledger();
+    draws = 3 + (rounds - 1);
+    for (unsigned k = 1; k < rounds; k++) ledger[lines / rounds * k] = 0;
+    for (size_t i = 0; i < lines; i++) added += ledger[i];
+    for (unsigned k = 1; k < rounds; k++) {
+        uint64_t left = 2 + k, longer = added / left + 1, enough = (left + 1) * former;
+        if (enough > added && enough - added > longer) longer = enough - added;
+        ledger[lines / rounds * k] = longer;
+        added += longer;
+        former = longer;
+    }
+}
+
+/* A ledger that needs many rounds: made from its last line backwards, where each round's lines are the least that the round before
+ * leaves alone. */
+static void deep_ledger(void)
+{
+    uint64_t added = 1, former = 1;
+    ledger[0] = lines = draws = 1;
+    for (;;) {
+        uint64_t more = (draws + 1) / 2, value = added / draws + 1, least = ((draws + more) * former - added + more - 1) / more;
+        if (value < former) value = former;
+        if (value < least) value = least;
+        while (value <= (added + more * value) / (draws + more)) value++;
+        if (lines + more > MOST || added + more * value > MUS_MOST_TOTAL) return;
+        for (uint64_t i = 0; i < more; i++) ledger[lines++] = value;
+        added += more * value;
+        draws += more;
+        former = value;
+    }
+}
+
+/* So many of the drawn lines have an error. */
+static void find_errors(unsigned count)
+{
+    mus_draw(ledger, lines, draws, start, marks, lines);
+    for (size_t i = 0; i < lines && count > 0; i++) {
+        if (marks[i] != MUS_DRAWN) continue;
+        errors[i] = 1 + next_random(ledger[i]);
+        count--;
+    }
+    te = 1;
+    memset(marks, 0, lines);
+}
+
+/* The longest content: every line has an error. */
+static void longest_content(void)
+{
+    lines = MUS_MOST_FILE_LINES;
+    for (size_t i = 0; i < 64; i++) words[i] = next_random(UINT64_C(0x7FFFFFFF));
+    for (size_t i = 0; i < lines; i++) {
+        ledger[i] = 1000 + next_random(9001);
+        errors[i] = 1 + next_random(1000);
+    }
+}
+
+static void call_judging(void) { kept = mus_split(ledger, lines, 0, marks, lines).refusal; }
+static void call_split(void) { kept = mus_split(ledger, lines, draws, marks, lines).interval; }
+static void call_draw(void) { kept = mus_draw(ledger, lines, draws, start, marks, lines).drawn; }
+static void call_project(void) { kept = mus_project(ledger, lines, draws, start, errors, lines).sampled; }
+static void call_judge(void) { kept = mus_judge(95, ledger, lines, draws, start, errors, lines, te).precision; }
+static void call_size(void) { kept = mus_size(95, 1000000, 20000, 4000).draws; }
+static void call_start(void) { kept = mus_start(40, words, 64).start; }
+static void call_read(void) { kept = mus_read(file, sizeof file, words_room, 64, values_room, 2048, errors_room, 2048).lines; }
+static void call_write(void) { kept = mus_write(95, 20000, 4000, words, 64, ledger, lines, errors, lines, file, sizeof file).length; }
+
+static void set_judging(void) { plain_ledger(); }
+static void set_split_1(void) { ledger_of_rounds(1); draws = lines / 100; }
+static void set_split_3(void) { ledger_of_rounds(3); }
+static void set_split_10(void) { ledger_of_rounds(10); }
+static void set_project(void) { plain_ledger(); find_errors(20); }
+static void set_most_errors(void) { plain_ledger(); find_errors(MUS_MOST_ERRORS); }
+static void set_read(void) { longest_content(); call_write(); }
+
+static const struct row {
+    const char *name;
+    void (*set)(void), (*call)(void);
+} rows[] = {
+    {"judging", set_judging, call_judging},
+    {"split-1", set_split_1, call_split},
+    {"split-3", set_split_3, call_split},
+    {"split-10", set_split_10, call_split},
+    {"split-deep", deep_ledger, call_split},
+    {"draw", plain_ledger, call_draw},
+    {"project", set_project, call_project},
+    {"judge", set_project, call_judge},
+    {"judge-63", set_most_errors, call_judge},
+    {"read", set_read, call_read},
+    {"write", longest_content, call_write},
+    {"size", longest_content, call_size},
+    {"start", longest_content, call_start},
+};
+
+/* The least time of many calls, in nanoseconds. */
+static uint64_t least_time(void (*call)(void))
+{
+    uint64_t least = UINT64_MAX;
+    for (unsigned i = 0; i < 30; i++) {
+        struct timespec from, to;
+        clock_gettime(CLOCK_MONOTONIC, &from);
+        call();
+        clock_gettime(CLOCK_MONOTONIC, &to);
+        uint64_t taken = (uint64_t) (to.tv_sec - from.tv_sec) * 1000000000 + (uint64_t) to.tv_nsec - (uint64_t) from.tv_nsec;
+        if (taken < least) least = taken;
+    }
+    return least;
+}
+
+#define STACK 1000000
+static uint8_t stack[STACK] __attribute__((aligned(16)));
+
+/* Calls on a painted stack of its own; how far down it was written. */
+static uint64_t written_below(void (*call)(void))
+{
+    size_t untouched = 0;
+    memset(stack, 0xA5, STACK);
+    __asm__ volatile("movq %%rsp, %%rbx\n\tmovq %0, %%rsp\n\tcall *%1\n\tmovq %%rbx, %%rsp"
+        : : "r"(stack + STACK), "r"(call)
+        : "rbx", "rax", "rcx", "rdx", "rsi", "rdi", "r8", "r9", "r10", "r11", "memory", "cc");
+    while (untouched < STACK && stack[untouched] == 0xA5) untouched++;
+    return STACK - untouched / 8 * 8;
+}
+
+int main(int argc, char **argv)
+{
+    if (argc < 4) return 2;
+    for (const char *digit = argv[2]; *digit != 0; digit++) lines = 10 * lines + (size_t) (*digit - '0');
+    if (lines > MOST) return 2;
+    for (size_t i = 0; i < sizeof rows / sizeof rows[0]; i++) {
+        if (strcmp(rows[i].name, argv[1]) != 0) continue;
+        rows[i].set();
+        if (strcmp(argv[3], "time") == 0) printf("%llu\n", (unsigned long long) least_time(rows[i].call));
+        else if (strcmp(argv[3], "stack") == 0) printf("%llu\n", (unsigned long long) written_below(rows[i].call));
+        else if (argc == 5 && argv[4][0] == '1') rows[i].call();
+        return 0;
+    }
+    return 2;
+}

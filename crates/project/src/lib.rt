@@ -81,7 +81,7 @@ pub fn line_of(value: u64, error: u64, interval: u64, next: u64) -> Line
 }
 
 // The line with its state, or 14 where its error exceeds its value, or 15 where it has an error and is neither drawn nor full.
-pub fn checked_line(item: Item, value: u64, error: u64, interval: u64, next: u64) -> LineAnswer
+fn checked_line(item: Item, value: u64, error: u64, interval: u64, next: u64) -> LineAnswer
     requires { ⌜ interval ≤ mostInterval ⌝ }
     ensures { λ r. ⌜ lineSays r ≡ checkedLine (item .0) (lineAt interval next value error) ⌝ }
 {
@@ -104,7 +104,7 @@ pub fn checked_line(item: Item, value: u64, error: u64, interval: u64, next: u64
 }
 
 // The sums with one line added.
-pub fn added(sums: Projection, line: Line) -> Projection
+fn added(sums: Projection, line: Line) -> Projection
     requires { ⌜ Fits sums line ⌝ }
     ensures { λ r. ⌜ r ≡ addedTo sums line ⌝ }
 {

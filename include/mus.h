@@ -31,6 +31,9 @@ extern "C" {
 #define MUS_MOST_FILE_LINES UINT64_C(2048)
 #define MUS_LONGEST_FILE UINT64_C(45663)
 
+/* The room that a sheet is printed into: no text is longer. */
+#define MUS_LONGEST_TEXT UINT64_C(184721)
+
 /* Why a call is refused. The comment names the place where it is not 0. */
 enum mus_refusal {
     MUS_ACCEPTED = 0,
@@ -51,7 +54,7 @@ enum mus_refusal {
     MUS_ERROR_NOT_DRAWN = 15,       /* an error above 0 on a line not drawn and not full; the line */
     MUS_TOO_MANY_ERRORS = 16,       /* more than MUS_MOST_ERRORS drawn lines with an error */
     MUS_FILE_BREAKS_RULE = 17,      /* the working file breaks a rule; the byte */
-    MUS_ROOM_TOO_SHORT = 18,        /* a lent file buffer is too short; the bytes or entries needed */
+    MUS_ROOM_TOO_SHORT = 18,        /* a lent file buffer or page is too short; the bytes or entries needed */
     MUS_NO_LEGAL_FILE = 19          /* the content has no legal file */
 };
 
@@ -113,6 +116,11 @@ struct mus_write_result {
     uint64_t length; /* how many bytes were written */
 };
 
+struct mus_sheet_result {
+    uint64_t refusal, place;
+    uint64_t length; /* how many bytes were printed */
+};
+
 /* The number of draws for a level in percent, a total, the tolerable error TE and the anticipated error AE. Refusals 1, 4, 5, 6, 7. */
 struct mus_size_result mus_size(uint8_t level, uint64_t total, uint64_t te, uint64_t ae);
 
@@ -143,6 +151,10 @@ struct mus_read_result mus_read(const uint8_t *file, size_t file_length, uint64_
 /* Writes the working file of a content. errors has an entry for each value; MUS_LONGEST_FILE bytes are room for any file, and bytes
  * past the file stay as they were. Refusals 13, 19, 18. */
 struct mus_write_result mus_write(uint8_t level, uint64_t te, uint64_t ae, const uint64_t *words, size_t words_length, const uint64_t *values, size_t values_length, const uint64_t *errors, size_t errors_length, uint8_t *file, size_t file_length);
+
+/* Prints the sheet of a working file: the desk program's whole text, or its line "refused", number and place where the file or a step
+ * is refused. page has room for at least MUS_LONGEST_TEXT bytes; bytes past the text stay as they were. Refusal 18, for the page alone. */
+struct mus_sheet_result mus_sheet(const uint8_t *file, size_t file_length, uint8_t *page, size_t page_length);
 
 #ifdef __cplusplus
 }

@@ -297,6 +297,36 @@ static void write_cases(void)
     SAME(r, "an empty content written", 0, 0, 31);
 }
 
+#ifndef WITHOUT_SHEET
+/* The page begins with the text, and no byte past it changed. */
+static void printed(struct mus_sheet_result r, const uint8_t *page, const char *text, const char *what)
+{
+    size_t length = strlen(text), kept = length;
+    while (kept < MUS_LONGEST_TEXT + 9 && page[kept] == 0xA5) kept++;
+    SAME(r, what, 0, 0, length);
+    expect(memcmp(page, text, length) == 0 && kept == MUS_LONGEST_TEXT + 9, what);
+}
+
+static void sheet_cases(void)
+{
+    static uint8_t page[MUS_LONGEST_TEXT + 9];
+    struct mus_sheet_result r;
+    size_t kept = 0;
+    memset(page, 0xA5, sizeof page);
+    r = mus_sheet(practice_file, sizeof practice_file, page, MUS_LONGEST_TEXT - 1);
+    SAME(r, "sheet: 18", 18, MUS_LONGEST_TEXT, 0);
+    r = mus_sheet(NULL, 0, NULL, 0);
+    SAME(r, "sheet: 18 without a page", 18, MUS_LONGEST_TEXT, 0);
+    while (kept < sizeof page && page[kept] == 0xA5) kept++;
+    expect(kept == sizeof page, "a refused sheet changes nothing");
+    r = mus_sheet(practice_file, sizeof practice_file, page, MUS_LONGEST_TEXT);
+    printed(r, page, "plan 90 120 100 0 3\nsplit 40 3 120 0 0\nstart 25 2\ndrawn 0 30 7 10\ndrawn 2 40 10 10\ndrawn 3 20 5 10\nproject 0 30 3\njudge 107 137 inconclusive\n", "the practice sheet");
+    memset(page, 0xA5, sizeof page);
+    r = mus_sheet(NULL, 0, page, sizeof page);
+    printed(r, page, "refused 17 0\n", "the sheet of no file");
+}
+#endif
+
 int main(int argc, char **argv)
 {
     size_cases();
@@ -308,6 +338,9 @@ int main(int argc, char **argv)
     judge_cases();
     read_cases();
     write_cases();
+#ifndef WITHOUT_SHEET
+    sheet_cases();
+#endif
     if (argc == 3) run_vectors(argv[1], argv[2]);
     printf("driver: %llu passed, %llu failed\n", passed, failed);
     return failed != 0;

@@ -101,6 +101,11 @@ static void call_start(void) { kept = mus_start(40, words, 64).start; }
 static void call_read(void) { kept = mus_read(file, sizeof file, words_room, 64, values_room, 2048, errors_room, 2048).lines; }
 static void call_write(void) { kept = mus_write(95, 20000, 4000, words, 64, ledger, lines, errors, lines, file, sizeof file).length; }
 
+#ifndef WITHOUT_SHEET
+static uint8_t page[MUS_LONGEST_TEXT];
+static void call_sheet(void) { kept = mus_sheet(file, sizeof file, page, sizeof page).length; }
+#endif
+
 static void set_judging(void) { plain_ledger(); }
 static void set_split_1(void) { ledger_of_rounds(1); draws = lines / 100; }
 static void set_split_3(void) { ledger_of_rounds(3); }
@@ -124,6 +129,9 @@ static const struct row {
     {"judge-63", set_most_errors, call_judge},
     {"read", set_read, call_read},
     {"write", longest_content, call_write},
+#ifndef WITHOUT_SHEET
+    {"sheet", set_read, call_sheet},
+#endif
     {"size", longest_content, call_size},
     {"start", longest_content, call_start},
 };

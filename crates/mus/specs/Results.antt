@@ -17,6 +17,7 @@ use Rattle.mus.specs.declared.ProjectResult.{ProjectResult}
 use Rattle.mus.specs.declared.JudgeResult.{JudgeResult}
 use Rattle.mus.specs.declared.ReadResult.{ReadResult}
 use Rattle.mus.specs.declared.WriteResult.{WriteResult}
+use Rattle.mus.specs.declared.SheetResult.{SheetResult}
 
 abbrev pub sizeSeen : Outcome ℕ → SizeResult
 sizeSeen o = record { refusal = numberSeen o; place = placeSeen o; draws = seen (λ draws. draws) o }
@@ -88,3 +89,6 @@ readSeen o =
 
 abbrev pub writeSeen : Outcome ℕ → WriteResult
 writeSeen o = record { refusal = numberSeen o; place = placeSeen o; length = seen (λ length. length) o }
+
+abbrev pub sheetSeen : Outcome ℕ → SheetResult
+sheetSeen o = record { refusal = numberSeen o; place = placeSeen o; length = seen (λ length. length) o }

@@ -1,10 +1,12 @@
-// The working file: reader and writer.
+// The working file: reader and writer, and the sheet of a file.
 use crate::ReadResult;
+use crate::SheetResult;
 use crate::WriteResult;
+use sheet::SheetAnswer;
 use workfile::ReadAnswer;
 use workfile::WriteAnswer;
 ghost use Rattle.workfile.specs.Promises.{planWith};
-ghost use Rattle.mus.specs.File.{ReadSeen, WriteSeen};
+ghost use Rattle.mus.specs.File.{ReadSeen, WriteSeen, SheetSeen};
 
 // Reads a working file into the buffers.
 #[no_mangle]
@@ -61,6 +63,25 @@ pub extern "C" fn mus_write(
             length: 0,
         },
         WriteAnswer::Written(length) => WriteResult {
+            refusal: 0,
+            place: 0,
+            length,
+        },
+    }
+}
+
+// Prints the sheet of a working file onto the page.
+#[no_mangle]
+pub extern "C" fn mus_sheet(file: &[u8], page: &mut [u8]) -> SheetResult
+    ensures { λ r. ⌜ SheetSeen (now (file .entry)) (now (page .entry)) r (now (page .exit)) ⌝ }
+{
+    match sheet::sheet_in(file, page) {
+        SheetAnswer::Refused(why) => SheetResult {
+            refusal: terms::number_of(why),
+            place: terms::place_of(why),
+            length: 0,
+        },
+        SheetAnswer::Printed(length) => SheetResult {
             refusal: 0,
             place: 0,
             length,

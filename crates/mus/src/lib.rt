@@ -1,6 +1,6 @@
 // The operations for C and the like. Each answers a struct by value: the refusal's number and place, 0 where the call is accepted, and
 // the figures, 0 where it is refused. A slice is a pointer and a length. include/mus.h declares them.
-mod file; // file.rt: the working file
+mod file; // file.rt: the working file and its sheet
 mod steps; // steps.rt: the steps of the method
 
 #[repr(C)]
@@ -70,6 +70,13 @@ pub struct ReadResult {
 
 #[repr(C)]
 pub struct WriteResult {
+    pub refusal: u64,
+    pub place: u64,
+    pub length: u64,
+}
+
+#[repr(C)]
+pub struct SheetResult {
     pub refusal: u64,
     pub place: u64,
     pub length: u64,

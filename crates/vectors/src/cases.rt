@@ -6,7 +6,11 @@ use crate::input::four;
 use crate::input::on;
 use crate::lists;
 use crate::rooms;
+use draw::DrawAnswer;
+use judge::JudgeAnswer;
 use pen::Pen;
+use project::ProjectAnswer;
+use split::SplitAnswer;
 use workfile::ReadAnswer;
 use workfile::WriteAnswer;
 
@@ -43,6 +47,12 @@ fn lent_marks(pen: Pen, page: &mut [u8], ledger: &[u64], marks: &[u8]) -> Pen {
     once.field(page, rooms::digest_bytes(marks))
 }
 
+fn tell_split(pen: Pen, page: &mut [u8], answer: SplitAnswer, ledger: &[u64], marks: &[u8]) -> Pen {
+    let opened = pen.text(page, b" split");
+    let answered = answers::put_split(opened, page, answer);
+    lent_marks(answered, page, ledger, marks)
+}
+
 fn split_on(
     input: &[u8],
     at: usize,
@@ -55,9 +65,7 @@ fn split_on(
     lists::fill(input, at, ledger);
     rooms::fill_bytes(marks);
     let answer = split::split(ledger, n, marks);
-    let opened = pen.text(page, b" split");
-    let answered = answers::put_split(opened, page, answer);
-    lent_marks(answered, page, ledger, marks)
+    tell_split(pen, page, answer, ledger, marks)
 }
 
 pub fn split(
@@ -120,6 +128,12 @@ struct Drawing {
     start: u64,
 }
 
+fn tell_draw(pen: Pen, page: &mut [u8], answer: DrawAnswer, ledger: &[u64], marks: &[u8]) -> Pen {
+    let opened = pen.text(page, b" draw");
+    let answered = answers::put_draw(opened, page, answer);
+    lent_marks(answered, page, ledger, marks)
+}
+
 fn draw_on(
     input: &[u8],
     drawing: Drawing,
@@ -131,9 +145,7 @@ fn draw_on(
     lists::fill(input, drawing.at, ledger);
     rooms::fill_bytes(marks);
     let answer = draw::draw(ledger, drawing.n, drawing.start, marks);
-    let opened = pen.text(page, b" draw");
-    let answered = answers::put_draw(opened, page, answer);
-    lent_marks(answered, page, ledger, marks)
+    tell_draw(pen, page, answer, ledger, marks)
 }
 
 pub fn draw(
@@ -166,6 +178,18 @@ pub fn draw(
     }
 }
 
+fn tell_project(
+    pen: Pen,
+    page: &mut [u8],
+    answer: ProjectAnswer,
+    ledger: &[u64],
+    errors: &[u64],
+) -> Pen {
+    let opened = pen.text(page, b" project");
+    let answered = answers::put_project(opened, page, answer);
+    lent_numbers(answered, page, ledger, errors)
+}
+
 fn project_on(
     input: &[u8],
     drawing: Drawing,
@@ -177,9 +201,7 @@ fn project_on(
     lists::fill(input, drawing.at, ledger);
     lists::fill(input, lists::end(input, drawing.at), errors);
     let answer = project::project(ledger, drawing.n, drawing.start, errors);
-    let opened = pen.text(page, b" project");
-    let answered = answers::put_project(opened, page, answer);
-    lent_numbers(answered, page, ledger, errors)
+    tell_project(pen, page, answer, ledger, errors)
 }
 
 pub fn project(
@@ -220,6 +242,18 @@ struct Judging {
     te: u64,
 }
 
+fn tell_judge(
+    pen: Pen,
+    page: &mut [u8],
+    answer: JudgeAnswer,
+    ledger: &[u64],
+    errors: &[u64],
+) -> Pen {
+    let opened = pen.text(page, b" judge");
+    let answered = answers::put_judge(opened, page, answer);
+    lent_numbers(answered, page, ledger, errors)
+}
+
 fn judge_on(
     input: &[u8],
     judging: Judging,
@@ -239,9 +273,7 @@ fn judge_on(
         errors,
         judging.te,
     );
-    let opened = pen.text(page, b" judge");
-    let answered = answers::put_judge(opened, page, answer);
-    lent_numbers(answered, page, ledger, errors)
+    tell_judge(pen, page, answer, ledger, errors)
 }
 
 pub fn judge(

@@ -16,7 +16,29 @@ fn write_line(page: &[u8], pen: Pen) {
     }
 }
 
-// One case, by the number of its operation; the answer goes on the page.
+// A case of steps 1 to 6, by the number of its operation; the answer goes on the page.
+fn step_case(
+    input: &[u8],
+    at: usize,
+    ledger: &mut [u64],
+    errors: &mut [u64],
+    words: &mut [u64],
+    marks: &mut [u8],
+    pen: Pen,
+    page: &mut [u8],
+) -> Done {
+    let fields = input::on(input, at, 1);
+    match input::byte_at(input, at) {
+        1 => cases::size(input, fields, pen, page),
+        2 => cases::split(input, fields, ledger, marks, pen, page),
+        3 => cases::start(input, fields, words, pen, page),
+        4 => cases::draw(input, fields, ledger, marks, pen, page),
+        5 => cases::project(input, fields, ledger, errors, pen, page),
+        _ => cases::judge(input, fields, ledger, errors, pen, page),
+    }
+}
+
+// A case of a step, or of the working file: 7 is a read and 8 a write.
 fn answer_case(
     input: &[u8],
     at: usize,
@@ -31,14 +53,9 @@ fn answer_case(
 ) -> Done {
     let fields = input::on(input, at, 1);
     match input::byte_at(input, at) {
-        1 => cases::size(input, fields, pen, page),
-        2 => cases::split(input, fields, ledger, marks, pen, page),
-        3 => cases::start(input, fields, words, pen, page),
-        4 => cases::draw(input, fields, ledger, marks, pen, page),
-        5 => cases::project(input, fields, ledger, errors, pen, page),
-        6 => cases::judge(input, fields, ledger, errors, pen, page),
         7 => cases::read(input, fields, out, file, words, ledger, errors, pen, page),
-        _ => cases::write(input, fields, words, ledger, errors, out, pen, page),
+        8 => cases::write(input, fields, words, ledger, errors, out, pen, page),
+        _ => step_case(input, at, ledger, errors, words, marks, pen, page),
     }
 }
 

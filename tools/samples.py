@@ -7,39 +7,26 @@
     python3 tools/samples.py run COMMAND ..  runs a desk program on every sample and compares
     python3 tools/samples.py make COMMAND .. runs a program that makes the working file of a text, and compares
 
-The notation has one record a line: P level TE AE, W word, L book value, E line error. Blank lines and lines that open
-with # are passed over. Z is made. A sample NAME.hex holds the bytes themselves, for files that no text can give.
+A sample NAME.txt is a text in the notation (tools/notation.py). A sample NAME.hex holds the bytes themselves, for files that no text
+can give.
 """
 
 import pathlib
 import subprocess
 import sys
 
+import notation
 import reference
 
 SAMPLES = pathlib.Path(__file__).resolve().parent.parent / "samples"
-WIDTHS = {"P": (1, 8, 8), "W": (8,), "L": (8,), "E": (4, 8)}
-
-
-def records_of(text):
-    """Kind and numbers of each record of the notation."""
-    for number, line in enumerate(text.splitlines(), start=1):
-        words = line.split()
-        if not words or words[0].startswith("#"):
-            continue
-        kind, numbers = words[0], [int(word) for word in words[1:]]
-        if kind not in WIDTHS or len(numbers) != len(WIDTHS[kind]):
-            sys.exit(f"line {number}: no record: {line}")
-        yield kind, numbers
 
 
 def pack(text):
-    """The working file of a text: the records in the order of the text, then Z."""
-    file, values = b"", []
-    for kind, numbers in records_of(text):
-        file += reference.record(kind.encode(), *zip(numbers, WIDTHS[kind]))
-        values += numbers if kind == "L" else []
-    return file + reference.record(b"Z", (len(values), 4), (sum(values), 8))
+    """The working file of a text."""
+    found = notation.parse(text)
+    if isinstance(found, notation.Fault):
+        sys.exit(found.text())
+    return found.file()
 
 
 def bytes_of_hex(text):
@@ -48,8 +35,7 @@ def bytes_of_hex(text):
 
 
 def file_of(path):
-    text = path.read_text()
-    return bytes_of_hex(text) if path.suffix == ".hex" else pack(text)
+    return bytes_of_hex(path.read_text()) if path.suffix == ".hex" else pack(path.read_bytes())
 
 
 def every_sample():

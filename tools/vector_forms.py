@@ -21,6 +21,17 @@ def room_of_bytes(count):
 # ---- Lists and bytes ----
 
 
+def packed(changes, form="<IQ"):
+    """The count of the changes, then place and entry of each."""
+    return struct.pack("<H", len(changes)) + b"".join(struct.pack(form, *change) for change in changes)
+
+
+def changed(entries, changes):
+    for place, entry in changes:
+        entries[place] = entry
+    return entries
+
+
 @dataclass
 class Listed:
     entries: list
@@ -42,17 +53,15 @@ class Generated:
     changes: tuple = ()
 
     def pack(self):
-        head = (1, self.count, self.seed, self.low, self.most, self.scale, len(self.changes))
-        return struct.pack("<BIIIIIH", *head) + b"".join(struct.pack("<IQ", *change) for change in self.changes)
+        head = (1, self.count, self.seed, self.low, self.most, self.scale)
+        return struct.pack("<BIIIII", *head) + packed(self.changes)
 
     def expand(self):
         entries, x = [], self.seed
         for _ in range(self.count):
             x = (x * 1_664_525 + 1_013_904_223) % 2**32
             entries.append(self.low + (x // 256 % (self.most + 1)) * self.scale)
-        for place, entry in self.changes:
-            entries[place] = entry
-        return entries
+        return changed(entries, self.changes)
 
 
 @dataclass
@@ -62,14 +71,10 @@ class Equal:
     changes: tuple = ()
 
     def pack(self):
-        head = struct.pack("<BIQH", 2, self.count, self.entry, len(self.changes))
-        return head + b"".join(struct.pack("<IQ", *change) for change in self.changes)
+        return struct.pack("<BIQ", 2, self.count, self.entry) + packed(self.changes)
 
     def expand(self):
-        entries = [self.entry] * self.count
-        for place, entry in self.changes:
-            entries[place] = entry
-        return entries
+        return changed([self.entry] * self.count, self.changes)
 
 
 @dataclass
@@ -91,14 +96,10 @@ class Written:
     changes: tuple = ()
 
     def pack(self):
-        head = struct.pack("<BIH", 1, self.count, len(self.changes))
-        return head + b"".join(struct.pack("<IB", *change) for change in self.changes)
+        return struct.pack("<BI", 1, self.count) + packed(self.changes, "<IB")
 
     def expand(self, written):
-        content = bytearray(written[: self.count])
-        for place, byte in self.changes:
-            content[place] = byte
-        return bytes(content)
+        return bytes(changed(bytearray(written[: self.count]), self.changes))
 
 
 def given(entries):

@@ -7,12 +7,13 @@ use borrow.Author.Tests.{le-ltb, lt-ltb}
 use lib.ListN.{length}
 use Rattle.terms.specs.Outcome.{Outcome, accepted, refused, after, left}
 use Rattle.terms.proofs.Outcomes.{never, after-accepted}
-use Rattle.notation.specs.Limits.{mostWords, mostFileLines}
-use Rattle.notation.specs.Contents.{wrongNumber, Content, textOf}
-use Rattle.notation.specs.Parse.{parseSays, counted, parseOf, over, ParsePost}
-use Rattle.notation.specs.Steps.{Rooms, Passed}
+use Rattle.workfile.specs.Content.{mostWords, mostFileLines}
+use Rattle.workfile.specs.Promises.{over, Rooms}
+use Rattle.workfile.specs.declared.Contents.{Contents}
+use Rattle.notation.specs.Contents.{wrongNumber, Draft, textOf}
+use Rattle.notation.specs.Parse.{parseSays, counted, parseOf, ParsePost}
+use Rattle.notation.specs.Steps.{Passed}
 use Rattle.entry.specs.declared.Wrong.the-variants.{NoRoom}
-use Rattle.notation.specs.declared.Contents.{Contents}
 use Rattle.notation.specs.declared.Fault.{Fault}
 use Rattle.notation.specs.declared.ParseAnswer.{ParseAnswer}
 use Rattle.notation.specs.declared.ParseAnswer.the-variants.{Parsed, Faulty}
@@ -44,7 +45,7 @@ module _ (text w v e : List ℕ) where
   roomed rooms = simp (le-ltb _ _ (rooms .words), le-ltb _ _ (rooms .values), le-ltb _ _ (rooms .errors))
 
 -- a refused text leaves a buffer
-left-alone : {n p : ℕ} (f : Content → List ℕ) (old : List ℕ) (o : Outcome Content) → refused n p ≡ after counted o → old ≡ left f old o
+left-alone : {n p : ℕ} (f : Draft → List ℕ) (old : List ℕ) (o : Outcome Draft) → refused n p ≡ after counted o → old ≡ left f old o
 left-alone f old (accepted c) q = never q
 left-alone f old (refused n p) q = refl
 

@@ -1,19 +1,18 @@
 -- What is known of every text that is accepted, and that the promise of `parse` leaves no freedom. Assumes nothing.
 use mathlib.Core.Path.{_≡_, refl, sym, ap, subst, _∙_}
-use mathlib.Core.List.{List, [], _∷_, _++_}
-use Prim.Native.Nat.{ℕ, zero, suc, _+_, _^_, _≤_, _<_}
+use mathlib.Core.List.{List, [], _∷_}
+use Prim.Native.Nat.{ℕ, zero, suc, _≤_}
 use native.Mathlib.Omega.{arith}
-use lib.ListN.{length, length-append}
-use Rattle.pen.specs.Letters.{letters}
-use Rattle.pen.specs.Text.{decimal}
-use Rattle.pen.proofs.Lengths.{decimal-short}
 use Rattle.terms.specs.Outcome.{accepted}
 use Rattle.terms.proofs.Outcomes.{never}
+use Rattle.workfile.specs.Content.{encode, longestFile}
+use Rattle.workfile.specs.Promises.{writeOf}
+use Rattle.workfile.proofs.Longest.{encode-short}
+use Rattle.workfile.proofs.Promises.{counts-write}
 use Rattle.entry.specs.Text.{linesOf}
 use Rattle.entry.specs.Records.{recordIn}
-use Rattle.notation.specs.Contents.{wrongNumber, Content, empty, stateOf, judged, grow, goOn, readLines, textOf}
+use Rattle.notation.specs.Contents.{wrongNumber, Draft, contentOf, empty, stateOf, judged, grow, goOn, readLines, textOf}
 use Rattle.notation.specs.Parse.{parseSays, ParsePost}
-use Rattle.notation.specs.Faults.{wrongWords, faultText}
 use Rattle.entry.specs.declared.Wrong.{Wrong}
 use Rattle.entry.specs.declared.Wrong.the-variants.{UnknownKind, NumberMissing, NotNumber, NumberTooLarge, FieldTooMany, NoPlan, SecondPlan, LevelTooLarge, OutOfOrder, TooManyWords, TooManyLines, TotalTooLarge, UnknownLine, LineNotRising, ErrorZero, NoRoom}
 use Rattle.notation.specs.declared.Judged.{Judged}
@@ -25,7 +24,7 @@ use Rattle.notation.proofs.Growing.{rule, Legal, legal-empty, legal-gro
 use Rattle.notation.proofs.Passing.{its-content}
 
 -- what the lines of a text add to a legal content is legal
-lines-legal : (lines : List (List ℕ)) (line : ℕ) (c d : Content) → Legal c → readLines line c lines ≡ accepted d → Legal d
+lines-legal : (lines : List (List ℕ)) (line : ℕ) (c d : Draft) → Legal c → readLines line c lines ≡ accepted d → Legal d
 unfolding readLines
 lines-legal [] line c d l e = subst Legal (its-content c line d e) l
 lines-legal (bytes ∷ later) line c d l e = go (judged (stateOf c) (recordIn bytes)) refl e (lines-legal later (suc line) (grow c (recordIn bytes)) d)
@@ -35,10 +34,13 @@ lines-legal (bytes ∷ later) line c d l e = go (judged (stateOf c) (recordIn by
     go (Fits s) q f again = again (legal-grown c (recordIn bytes) (rule (stateOf c) (recordIn bytes) s q) l) f
     go (Breaks wrong) q f again = never f
 
--- so the content of every accepted text has a working file
-pub text-legal : (text : List ℕ) (c : Content) → textOf text ≡ accepted c → Legal c
+text-legal : (text : List ℕ) (c : Draft) → textOf text ≡ accepted c → Legal c
 unfolding textOf
 text-legal text c e = lines-legal (linesOf text) 1 empty c legal-empty e
+
+-- so what an accepted text says is written, into any room that is as long as the longest file
+pub text-writes : (text : List ℕ) (c : Draft) (room : ℕ) → textOf text ≡ accepted c → longestFile ≤ room → writeOf (contentOf c) room ≡ accepted (encode (contentOf c))
+text-writes text c room e h = counts-write (contentOf c) room (text-legal text c e .counts) (omega (arith, encode-short (contentOf c) (text-legal text c e .counts)))
 
 -- the faults in the order of their numbers
 listed : List Wrong
@@ -101,32 +103,3 @@ parsed-once {r = r} {s = s} p q =
       values = p .values ∙ sym (q .values);
       errors = p .errors ∙ sym (q .errors);
     }
-
--- a fault's line has room on a page of 80 bytes
-words-short : (w : Wrong) → length (wrongWords w) ≤ 50
-words-short UnknownKind = omega arith
-words-short NumberMissing = omega arith
-words-short NotNumber = omega arith
-words-short NumberTooLarge = omega arith
-words-short FieldTooMany = omega arith
-words-short NoPlan = omega arith
-words-short SecondPlan = omega arith
-words-short LevelTooLarge = omega arith
-words-short OutOfOrder = omega arith
-words-short TooManyWords = omega arith
-words-short TooManyLines = omega arith
-words-short TotalTooLarge = omega arith
-words-short UnknownLine = omega arith
-words-short LineNotRising = omega arith
-words-short ErrorZero = omega arith
-words-short NoRoom = omega arith
-
-pub fault-short : (fault : Fault) → fault .line < 2 ^ 64 → length (faultText fault) ≤ 80
-fault-short fault h =
-    omega (
-      arith,
-      length-append (decimal (fault .line)) (letters ": " ++ (wrongWords (fault .wrong) ++ (10 ∷ []))),
-      length-append (wrongWords (fault .wrong)) (10 ∷ []),
-      words-short (fault .wrong),
-      decimal-short (fault .line) h,
-    )

@@ -13,13 +13,14 @@ use Rattle.terms.specs.Outcome.{Outcome, accepted, refused, after}
 use Rattle.terms.specs.Numbers.{pick}
 use Rattle.terms.proofs.Tests.{by-test, le-or-lt}
 use Rattle.terms.proofs.Outcomes.{never}
-use Rattle.notation.specs.Limits.{mostFileLines}
+use Rattle.workfile.specs.Content.{mostFileLines}
+use Rattle.workfile.specs.Promises.{over, Rooms}
 use Rattle.entry.specs.Text.{onto, linesOf, goesOn}
 use Rattle.entry.specs.Records.{recordIn}
 use Rattle.entry.specs.Steps.{runOf, Reached}
-use Rattle.notation.specs.Steps.{Rooms, Rule, Kept, endOf, Passed}
-use Rattle.notation.specs.Contents.{wrongNumber, Content, empty, stateOf, judged, grow, goOn, readLines, textOf}
-use Rattle.notation.specs.Parse.{parseSays, countsOf, counted, over}
+use Rattle.notation.specs.Steps.{Rule, Kept, endOf, Passed}
+use Rattle.notation.specs.Contents.{wrongNumber, Draft, empty, stateOf, judged, grow, goOn, readLines, textOf}
+use Rattle.notation.specs.Parse.{parseSays, countsOf, counted}
 use Rattle.entry.specs.declared.Run.the-variants.{Line}
 use Rattle.entry.specs.declared.Wrong.{Wrong}
 use Rattle.entry.specs.declared.Wrong.the-variants.{NoPlan}
@@ -83,7 +84,7 @@ lines-at {text} {at} {end} inside run =
 
 -- before a line: the content of those before it, from which the lines that follow give what the whole text does
 pub record Stands (text : List ℕ) (storing : Bool) (w v e : List ℕ) (at line : ℕ) (s : State) (w′ v′ e′ : List ℕ) : Type 0 where
-  pub read : Content
+  pub read : Draft
   pub state : stateOf read ≡ s
   pub same : readLines line read (linesOf (drop at text)) ≡ textOf text
   pub within : at ≤ length text
@@ -111,7 +112,7 @@ picked true x old new e = (λ f. let z : _≡_ {A = ℕ} 0 1 = cc in absurd (ome
 picked false x old new e = (λ f. e, λ t. let z : _≡_ {A = ℕ} 0 1 = cc in absurd (omega arith))
 
 -- the answer at the end, and the content that it is the answer of
-ended-as : (c : Content) (line : ℕ) → endOf (stateOf c) line ≡ after counted (pick (eqb (c .plans) 0) (refused (wrongNumber NoPlan) line) (accepted c))
+ended-as : (c : Draft) (line : ℕ) → endOf (stateOf c) line ≡ after counted (pick (eqb (c .plans) 0) (refused (wrongNumber NoPlan) line) (accepted c))
 unfolding endOf
 ended-as c line = go (eqb (c .plans) 0)
   where
@@ -119,8 +120,8 @@ ended-as c line = go (eqb (c .plans) 0)
     go true = refl
     go false = refl
 
-pub its-content : (c : Content) (line : ℕ) (d : Content) → pick (eqb (c .plans) 0) (refused (wrongNumber NoPlan) line) (accepted c) ≡ accepted d → c ≡ d
-its-content c line d = by-test (λ (o : Outcome Content). o ≡ accepted d → c ≡ d) (eqb (c .plans) 0) (λ p f. never f) (λ p f. cc)
+pub its-content : (c : Draft) (line : ℕ) (d : Draft) → pick (eqb (c .plans) 0) (refused (wrongNumber NoPlan) line) (accepted c) ≡ accepted d → c ≡ d
+its-content c line d = by-test (λ (o : Outcome Draft). o ≡ accepted d → c ≡ d) (eqb (c .plans) 0) (λ p f. never f) (λ p f. cc)
 
 module _ {text : List ℕ} {storing : Bool} {w v e : List ℕ} {at line : ℕ} {s : State} {w′ v′ e′ : List ℕ} (st : Stands text storing w v e at line s w′ v′ e′) where
   pub sizes : Sizes w v e w′ v′ e′
@@ -135,7 +136,7 @@ module _ {text : List ℕ} {storing : Bool} {w v e : List ℕ} {at line : ℕ} {
       }
 
   pub few-lines : s .lines ≤ mostFileLines
-  few-lines = omega (arith, ap (λ (t : State). t .lines) (st .state), st .legal .lines)
+  few-lines = omega (arith, ap (λ (t : State). t .lines) (st .state), st .legal .counts .few-lines)
 
   quiet : storing ≡ false → (w′ ≡ w) × (v′ ≡ v) × (e′ ≡ e)
   quiet f = (
@@ -161,7 +162,7 @@ module _ {text : List ℕ} {storing : Bool} {w v e : List ℕ} {at line : ℕ} {
       record {
         answer = a ∙ ap (λ (t : State). endOf t line) (sym (st .state)) ∙ ended-as (st .read) line ∙ ap (after counted) (sym (whole h));
         quiet = quiet;
-        kept = λ c t f. subst (λ (d : Content). (w′ ≡ over (d .words) w) × (v′ ≡ over (d .values) v) × (e′ ≡ over (d .errors) e)) (its-content (st .read) line c (sym (whole h) ∙ f)) (loud t);
+        kept = λ c t f. subst (λ (d : Draft). (w′ ≡ over (d .words) w) × (v′ ≡ over (d .values) v) × (e′ ≡ over (d .errors) e)) (its-content (st .read) line c (sym (whole h) ∙ f)) (loud t);
       }
 
   -- at a line

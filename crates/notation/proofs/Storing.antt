@@ -7,9 +7,9 @@ use native.Mathlib.Omega.{arith}
 use lib.ListN.{length, getD, drop, set, length-append, length-drop, length-set}
 use lib.Seq.{drop-cons, set-append-seam, set-append-left}
 use Rattle.terms.specs.Numbers.{pick}
-use Rattle.notation.specs.Contents.{Content, stateOf, grow}
-use Rattle.notation.specs.Parse.{over}
-use Rattle.notation.specs.Steps.{Rooms, Rule, putWords, putValues, putErrors, Kept}
+use Rattle.notation.specs.Contents.{Draft, stateOf, grow}
+use Rattle.workfile.specs.Promises.{over, Rooms}
+use Rattle.notation.specs.Steps.{Rule, putWords, putValues, putErrors, Kept}
 use Rattle.entry.specs.declared.Wrong.{Wrong}
 use Rattle.entry.specs.declared.Record.{Record}
 use Rattle.entry.specs.declared.Record.the-variants.{Nothing, Plan, Word, Value, Error, Unreadable}
@@ -29,7 +29,7 @@ length-over : (xs old : List ℕ) → length xs ≤ length old → length (over 
 length-over xs old h = length-append xs (drop (length xs) old) ∙ omega (arith, length-drop (length xs) old)
 
 -- a content over the buffers, with one record more
-module _ (c : Content) (legal : Legal c) (w v e : List ℕ) (rooms : Rooms w v e) where
+module _ (c : Draft) (legal : Legal c) (w v e : List ℕ) (rooms : Rooms w v e) where
   words-grown : (r : Record) → Rule (stateOf c) r → over (grow c r .words) w ≡ putWords (stateOf c) r (over (c .words) w)
   unfolding grow
   words-grown Nothing h = refl
@@ -54,17 +54,17 @@ module _ (c : Content) (legal : Legal c) (w v e : List ℕ) (rooms : Rooms w v e
   errors-grown (Plan level te ae) h = refl
   errors-grown (Word word) h = refl
   errors-grown (Value value) h =
-      over-more (c .errors) e 0 (omega (arith, rooms .errors, h .0, legal .paired)) ∙ ap (λ (n : ℕ). set (over (c .errors) e) n 0) (legal .paired)
-  errors-grown (Error line error) h = over-set (c .errors) e line error (omega (arith, legal .paired))
+      over-more (c .errors) e 0 (omega (arith, rooms .errors, h .0, legal .counts .same)) ∙ ap (λ (n : ℕ). set (over (c .errors) e) n 0) (legal .counts .same)
+  errors-grown (Error line error) h = over-set (c .errors) e line error (omega (arith, legal .counts .same))
   errors-grown (Unreadable wrong) h = refl
 
 -- the buffers of a pass after the records of c
-pub record Held (storing : Bool) (c : Content) (w v e w′ v′ e′ : List ℕ) : Type 0 where
+pub record Held (storing : Bool) (c : Draft) (w v e w′ v′ e′ : List ℕ) : Type 0 where
   pub words : w′ ≡ pick storing (over (c .words) w) w
   pub values : v′ ≡ pick storing (over (c .values) v) v
   pub errors : e′ ≡ pick storing (over (c .errors) e) e
 
-pub held-none : (storing : Bool) (c : Content) (w v e : List ℕ) → c .words ≡ [] → c .values ≡ [] → c .errors ≡ [] → Held storing c w v e w v e
+pub held-none : (storing : Bool) (c : Draft) (w v e : List ℕ) → c .words ≡ [] → c .values ≡ [] → c .errors ≡ [] → Held storing c w v e w v e
 held-none true c w v e p q r =
     record {
       words = sym (ap (λ (l : List ℕ). over l w) p);
@@ -78,7 +78,7 @@ flagged : (storing : Bool) (f : List ℕ → List ℕ) (x y old new newer : List
 flagged true f x y old new newer p q e = q ∙ ap f p ∙ sym e
 flagged false f x y old new newer p q e = q ∙ p
 
-pub held-more : (storing : Bool) (c : Content) (w v e w′ v′ e′ w″ v″ e″ : List ℕ) (r : Record) → Legal c → Rooms w v e → Rule (stateOf c) r
+pub held-more : (storing : Bool) (c : Draft) (w v e w′ v′ e′ w″ v″ e″ : List ℕ) (r : Record) → Legal c → Rooms w v e → Rule (stateOf c) r
     → Held storing c w v e w′ v′ e′ → Kept storing (stateOf c) r w′ v′ e′ w″ v″ e″ → Held storing (grow c r) w v e w″ v″ e″
 held-more storing c w v e w′ v′ e′ w″ v″ e″ r legal rooms h held kept =
     record {
@@ -97,12 +97,12 @@ pub record Sizes (w v e w′ v′ e′ : List ℕ) : Type 0 where
   pub values : length v′ ≡ length v
   pub errors : length e′ ≡ length e
 
-pub held-sizes : {storing : Bool} {c : Content} {w v e w′ v′ e′ : List ℕ} → Legal c → Rooms w v e → Held storing c w v e w′ v′ e′ → Sizes w v e w′ v′ e′
+pub held-sizes : {storing : Bool} {c : Draft} {w v e w′ v′ e′ : List ℕ} → Legal c → Rooms w v e → Held storing c w v e w′ v′ e′ → Sizes w v e w′ v′ e′
 held-sizes {storing} {c} {w} {v} {e} {w′} {v′} {e′} legal rooms held =
     record {
-      words = same-size storing (c .words) w w′ (omega (arith, legal .words, rooms .words)) (held .words);
-      values = same-size storing (c .values) v v′ (omega (arith, legal .lines, rooms .values)) (held .values);
-      errors = same-size storing (c .errors) e e′ (omega (arith, legal .paired, legal .lines, rooms .errors)) (held .errors);
+      words = same-size storing (c .words) w w′ (omega (arith, legal .counts .few-words, rooms .words)) (held .words);
+      values = same-size storing (c .values) v v′ (omega (arith, legal .counts .few-lines, rooms .values)) (held .values);
+      errors = same-size storing (c .errors) e e′ (omega (arith, legal .counts .same, legal .counts .few-lines, rooms .errors)) (held .errors);
     }
 
 -- one record kept, by its kind

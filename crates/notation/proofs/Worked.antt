@@ -3,13 +3,10 @@ use Prim.Native.String.{String}
 use mathlib.Core.Path.{_≡_, refl}
 use mathlib.Core.List.{[], _∷_, map}
 use Rattle.pen.specs.Letters.{letters}
-use Rattle.pen.specs.Text.{decimalIn, decimal}
 use Rattle.terms.specs.Outcome.{accepted, refused}
 use Rattle.entry.specs.Text.{linesOf, blank, opens, fieldsOf}
 use Rattle.entry.specs.Records.{numberFrom, numberOf, planFrom, wordFrom, valueFrom, errorFrom, recordWith, recordOf, recordIn}
 use Rattle.notation.specs.Contents.{planJudged, wordJudged, valueJudged, errorJudged, judged, grow, readLines, textOf}
-use Rattle.notation.specs.Faults.{faultText}
-use Rattle.entry.specs.declared.Wrong.the-variants.{NotNumber}
 
 desk : textOf (letters "# the practice ledger\nP 90 100 0\n\nW 63\nW 25\nL 30\nL 30\nL 40\nL 20\n  E 0\t7 \r\nE 2 10\nE 3 5")
     ≡ accepted (record { plans = 1; level = 90; te = 100; ae = 0; words = 63 ∷ 25 ∷ []; values = 30 ∷ 30 ∷ 40 ∷ 20 ∷ []; errors = 7 ∷ 0 ∷ 10 ∷ 5 ∷ []; next = 4 })
@@ -24,7 +21,3 @@ faulty : map (λ (s : String). textOf (letters s))
     ∷ refused 12 3 ∷ []
 unfolding textOf readLines linesOf recordIn recordOf recordWith fieldsOf opens blank planFrom wordFrom valueFrom errorFrom numberOf numberFrom judged planJudged wordJudged valueJudged errorJudged grow
 faulty = refl
-
-in-words : faultText (record { line = 3; wrong = NotNumber }) ≡ letters "line 3: a number has decimal digits only\n"
-unfolding decimal decimalIn
-in-words = refl

@@ -1,12 +1,13 @@
 -- What a text says, record by record: each is judged by those before it, and is taken into the content or is wrong. These are definitions:
 -- nothing is assumed.
-use Prim.Native.Nat.{ℕ, suc, _+_, _^_}
+use Prim.Native.Nat.{ℕ, suc, _+_}
 use mathlib.Core.List.{List, [], _∷_, _++_}
 use lib.Dec.{eqb, ltb}
 use lib.ListN.{length, set}
 use Rattle.terms.specs.Outcome.{Outcome, accepted, refused}
 use Rattle.terms.specs.Numbers.{pick, sum}
-use Rattle.notation.specs.Limits.{mostWords, mostFileLines}
+use Rattle.workfile.specs.Content.{Content, mostWords, mostFileLines, sumBound}
+use Rattle.workfile.specs.Promises.{planWith, contentWith}
 use Rattle.entry.specs.Text.{linesOf}
 use Rattle.entry.specs.Records.{recordIn}
 use Rattle.entry.specs.declared.Wrong.{Wrong}
@@ -36,8 +37,8 @@ wrongNumber LineNotRising = 14
 wrongNumber ErrorZero = 15
 wrongNumber NoRoom = 16
 
--- What a text says: errors has one entry for each value, 0 where there is no E; `next` is the lowest line that an E may name.
-pub record Content : Type 0 where
+-- What the lines of a text say so far: errors has one entry for each value, 0 where there is no E; `next` is the lowest line that an E may name.
+pub record Draft : Type 0 where
   pub plans : ℕ
   pub level : ℕ
   pub te : ℕ
@@ -47,11 +48,15 @@ pub record Content : Type 0 where
   pub errors : List ℕ
   pub next : ℕ
 
-abbrev pub empty : Content
+-- the same as what a working file holds
+abbrev pub contentOf : Draft → Content
+contentOf d = contentWith (planWith (d .level) (d .te) (d .ae)) (d .words) (d .values) (d .errors)
+
+abbrev pub empty : Draft
 empty = record { plans = 0; level = 0; te = 0; ae = 0; words = []; values = []; errors = []; next = 0 }
 
 -- what the rules look at
-abbrev pub stateOf : Content → State
+abbrev pub stateOf : Draft → State
 stateOf c =
     record { plans = c .plans; level = c .level; te = c .te; ae = c .ae; words = length (c .words); lines = length (c .values); sum = sum (c .values); next = c .next }
 
@@ -88,7 +93,7 @@ valueJudged s value =
     pick (eqb (s .plans) 0) (Breaks NoPlan)
     (pick (ltb 0 (s .next)) (Breaks OutOfOrder)
     (pick (ltb (s .lines) mostFileLines)
-    (pick (ltb (s .sum + value) (2 ^ 64)) (Fits (withValue s value)) (Breaks TotalTooLarge))
+    (pick (ltb (s .sum + value) sumBound) (Fits (withValue s value)) (Breaks TotalTooLarge))
     (Breaks TooManyLines)))
 
 -- E on rising lines, each of an L; an error above 0
@@ -110,7 +115,7 @@ judged s (Error line error) = errorJudged s line error
 judged s (Unreadable wrong) = Breaks wrong
 
 -- the content with one record more
-unfoldable pub grow : Content → Record → Content
+unfoldable pub grow : Draft → Record → Draft
 grow c Nothing = c
 grow c (Plan level te ae) = record { plans = 1; level = level; te = te; ae = ae; words = c .words; values = c .values; errors = c .errors; next = c .next }
 grow c (Word word) = record { plans = c .plans; level = c .level; te = c .te; ae = c .ae; words = c .words ++ (word ∷ []); values = c .values; errors = c .errors; next = c .next }
@@ -118,18 +123,18 @@ grow c (Value value) = record { plans = c .plans; level = c .level; te = c .te; 
 grow c (Error line error) = record { plans = c .plans; level = c .level; te = c .te; ae = c .ae; words = c .words; values = c .values; errors = set (c .errors) line error; next = line + 1 }
 grow c (Unreadable wrong) = c
 
-abbrev pub goOn : Judged → ℕ → Outcome Content → Outcome Content
+abbrev pub goOn : Judged → ℕ → Outcome Draft → Outcome Draft
 goOn (Fits s) line rest = rest
 goOn (Breaks wrong) line rest = refused (wrongNumber wrong) line
 
 -- line by line, from a line's number and the content of those before it; the text ends with the line after its last
-unfoldable pub readLines : ℕ → Content → List (List ℕ) → Outcome Content
+unfoldable pub readLines : ℕ → Draft → List (List ℕ) → Outcome Draft
 unfolding judged grow recordIn
 readLines line c [] = pick (eqb (c .plans) 0) (refused (wrongNumber NoPlan) line) (accepted c)
 readLines line c (bytes ∷ later) =
     let rest = readLines (suc line) (grow c (recordIn bytes)) later in
     goOn (judged (stateOf c) (recordIn bytes)) line rest
 
-unfoldable pub textOf : List ℕ → Outcome Content
+unfoldable pub textOf : List ℕ → Outcome Draft
 unfolding readLines linesOf
 textOf text = readLines 1 empty (linesOf text)

@@ -1,16 +1,17 @@
 -- What `parse` answers and leaves in the lent buffers. These are definitions: nothing is assumed.
 use Prim.Native.Nat.{ℕ}
 use mathlib.Core.Path.{_≡_}
-use mathlib.Core.List.{List, _++_}
+use mathlib.Core.List.{List}
 use lib.Dec.{ltb}
-use lib.ListN.{length, drop}
+use lib.ListN.{length}
 use Rattle.terms.specs.Outcome.{Outcome, accepted, refused, after, left}
 use Rattle.terms.specs.Numbers.{pick}
-use Rattle.notation.specs.Limits.{mostWords, mostFileLines}
-use Rattle.notation.specs.Contents.{wrongNumber, Content, stateOf, textOf}
+use Rattle.workfile.specs.Content.{mostWords, mostFileLines}
+use Rattle.workfile.specs.Promises.{over}
+use Rattle.workfile.specs.declared.Contents.{Contents}
+use Rattle.notation.specs.Contents.{wrongNumber, Draft, stateOf, textOf}
 use Rattle.entry.specs.declared.Wrong.the-variants.{NoRoom}
 use Rattle.notation.specs.declared.State.{State}
-use Rattle.notation.specs.declared.Contents.{Contents}
 use Rattle.notation.specs.declared.ParseAnswer.{ParseAnswer}
 use Rattle.notation.specs.declared.ParseAnswer.the-variants.{Parsed, Faulty}
 
@@ -22,19 +23,15 @@ parseSays (Faulty fault) = refused (wrongNumber (fault .wrong)) (fault .line)
 abbrev pub countsOf : State → Contents
 countsOf s = record { level = s .level; te = s .te; ae = s .ae; words = s .words; lines = s .lines }
 
-abbrev pub counted : Content → Outcome Contents
+abbrev pub counted : Draft → Outcome Contents
 counted c = accepted (countsOf (stateOf c))
 
 -- What a text says to a caller with room for so many words, values and errors. No room is a fault of no line.
-unfoldable pub parseOf : List ℕ → ℕ → ℕ → ℕ → Outcome Content
+unfoldable pub parseOf : List ℕ → ℕ → ℕ → ℕ → Outcome Draft
 unfolding textOf
 parseOf text words values errors =
     pick (ltb words mostWords) (refused (wrongNumber NoRoom) 0)
     (pick (ltb values mostFileLines) (refused (wrongNumber NoRoom) 0) (pick (ltb errors mostFileLines) (refused (wrongNumber NoRoom) 0) (textOf text)))
-
--- a buffer with a list at its start; the entries past it stay
-abbrev pub over : List ℕ → List ℕ → List ℕ
-over new old = new ++ drop (length new) old
 
 -- w, v and e are the buffers before, w′, v′ and e′ after
 pub record ParsePost (text w v e : List ℕ) (r : ParseAnswer) (w′ v′ e′ : List ℕ) : Type 0 where

@@ -7,28 +7,23 @@ use lib.ListN.{length, drop, set}
 use lib.Dec.{eqb}
 use Rattle.terms.specs.Numbers.{pick}
 use Rattle.terms.specs.Outcome.{Outcome, accepted, refused, after}
-use Rattle.notation.specs.Limits.{mostWords, mostFileLines}
-use Rattle.notation.specs.Contents.{wrongNumber, Content, textOf}
-use Rattle.notation.specs.Parse.{parseSays, countsOf, counted, over}
+use Rattle.workfile.specs.Content.{mostWords, mostFileLines, sumBound}
+use Rattle.workfile.specs.Promises.{over}
+use Rattle.workfile.specs.declared.Contents.{Contents}
+use Rattle.notation.specs.Contents.{wrongNumber, Draft, textOf}
+use Rattle.notation.specs.Parse.{parseSays, countsOf, counted}
 use Rattle.entry.specs.declared.Record.{Record}
 use Rattle.entry.specs.declared.Record.the-variants.{Unreadable, Nothing, Plan, Word, Value, Error}
 use Rattle.entry.specs.declared.Wrong.the-variants.{NoPlan}
 use Rattle.notation.specs.declared.State.{State}
-use Rattle.notation.specs.declared.Contents.{Contents}
 use Rattle.notation.specs.declared.ParseAnswer.{ParseAnswer}
-
--- room for what any text holds
-pub record Rooms (w v e : List ℕ) : Type 0 where
-  pub words : mostWords ≤ length w
-  pub values : mostFileLines ≤ length v
-  pub errors : mostFileLines ≤ length e
 
 -- what a record that is taken keeps to
 abbrev pub Rule : State → Record → Type 0
 Rule s Nothing = Unit
 Rule s (Plan level te ae) = level ≤ 255
 Rule s (Word word) = s .words < mostWords
-Rule s (Value value) = (s .lines < mostFileLines) × (s .sum + value < 2 ^ 64)
+Rule s (Value value) = (s .lines < mostFileLines) × (s .sum + value < sumBound)
 Rule s (Error line error) = line < s .lines
 Rule s (Unreadable wrong) = Unit
 
@@ -70,4 +65,4 @@ endOf s line = pick (eqb (s .plans) 0) (refused (wrongNumber NoPlan) line) (acce
 pub record Passed (text : List ℕ) (storing : Bool) (w v e : List ℕ) (r : ParseAnswer) (w′ v′ e′ : List ℕ) : Type 0 where
   pub answer : parseSays r ≡ after counted (textOf text)
   pub quiet : storing ≡ false → (w′ ≡ w) × (v′ ≡ v) × (e′ ≡ e)
-  pub kept : (c : Content) → storing ≡ true → textOf text ≡ accepted c → (w′ ≡ over (c .words) w) × (v′ ≡ over (c .values) v) × (e′ ≡ over (c .errors) e)
+  pub kept : (c : Draft) → storing ≡ true → textOf text ≡ accepted c → (w′ ≡ over (c .words) w) × (v′ ≡ over (c .values) v) × (e′ ≡ over (c .errors) e)

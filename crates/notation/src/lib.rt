@@ -1,35 +1,22 @@
 // The text from which a working file is made: one record a line, in the practice sheet's own notation.
 mod rules; // rules.rt: which record may follow which
-pub mod faults; // faults.rt: a fault in words
 
 use entry::Record;
 use entry::Run;
 use entry::Wrong;
+use workfile::Contents;
 ghost use mathlib.Core.Path.{_≡_};
 ghost use Prim.Native.Nat.{suc, _≤_, min};
 ghost use lib.ListN.{length};
-ghost use Rattle.notation.specs.Limits.{mostFileLines};
+ghost use Rattle.workfile.specs.Content.{mostFileLines};
+ghost use Rattle.workfile.specs.Promises.{Rooms};
 ghost use Rattle.notation.specs.Parse.{parseSays, ParsePost};
-ghost use Rattle.notation.specs.Steps.{Rooms, Rule, Kept, endOf, Passed};
-
-// The largest counts of a working file. The definitions name the same numbers in specs/Limits.antt.
-pub const MOST_WORDS: usize = 64;
-
-pub const MOST_FILE_LINES: usize = 2_048;
+ghost use Rattle.notation.specs.Steps.{Rule, Kept, endOf, Passed};
 
 // The number of a line of the text, from 1, and what is wrong there.
 pub struct Fault {
     pub line: usize,
     pub wrong: Wrong,
-}
-
-// What a text says beside its words, values and errors, and how many of them there are.
-pub struct Contents {
-    pub level: u8,
-    pub te: u64,
-    pub ae: u64,
-    pub words: usize,
-    pub lines: usize,
 }
 
 pub enum ParseAnswer {
@@ -112,8 +99,8 @@ fn answer_at_end(s: State, line: usize) -> ParseAnswer
         level: s.level,
         te: s.te,
         ae: s.ae,
-        words: s.words,
-        lines: s.lines,
+        words: s.words as u64,
+        lines: s.lines as u64,
     })
 }
 
@@ -165,19 +152,19 @@ fn pass(
 pub fn parse(text: &[u8], words: &mut [u64], values: &mut [u64], errors: &mut [u64]) -> ParseAnswer
     ensures { λ r. ⌜ ParsePost (now (text .entry)) (now (words .entry)) (now (values .entry)) (now (errors .entry)) r (now (words .exit)) (now (values .exit)) (now (errors .exit)) ⌝ }
 {
-    if words.len() < MOST_WORDS {
+    if words.len() < workfile::MOST_WORDS {
         return ParseAnswer::Faulty(Fault {
             line: 0,
             wrong: Wrong::NoRoom,
         });
     }
-    if values.len() < MOST_FILE_LINES {
+    if values.len() < workfile::MOST_FILE_LINES {
         return ParseAnswer::Faulty(Fault {
             line: 0,
             wrong: Wrong::NoRoom,
         });
     }
-    if errors.len() < MOST_FILE_LINES {
+    if errors.len() < workfile::MOST_FILE_LINES {
         return ParseAnswer::Faulty(Fault {
             line: 0,
             wrong: Wrong::NoRoom,

@@ -2,8 +2,6 @@
 ghost use mathlib.Core.Path.{_≡_};
 ghost use Rattle.notation.specs.Contents.{planJudged, wordJudged, valueJudged, errorJudged, judged};
 use crate::Judged;
-use crate::MOST_FILE_LINES;
-use crate::MOST_WORDS;
 use crate::State;
 use entry::Record;
 use entry::Wrong;
@@ -38,7 +36,7 @@ fn judge_word(s: State) -> Judged
     if s.lines > 0 {
         return Judged::Breaks(Wrong::OutOfOrder);
     }
-    if s.words >= MOST_WORDS {
+    if s.words >= workfile::MOST_WORDS {
         return Judged::Breaks(Wrong::TooManyWords);
     }
     let words = s.words + 1;
@@ -63,7 +61,7 @@ fn judge_value(s: State, value: u64) -> Judged
     if s.next > 0 {
         return Judged::Breaks(Wrong::OutOfOrder);
     }
-    if s.lines >= MOST_FILE_LINES {
+    if s.lines >= workfile::MOST_FILE_LINES {
         return Judged::Breaks(Wrong::TooManyLines);
     }
     let room = 0xFFFF_FFFF_FFFF_FFFF - s.sum;

@@ -9,11 +9,11 @@ use Rattle.terms.proofs.Outcomes.{after-accepted}
 use Rattle.workfile.specs.declared.Plan.{Plan}
 use Rattle.workfile.specs.declared.WriteAnswer.{WriteAnswer}
 use Rattle.workfile.specs.declared.WriteAnswer.the-variants.{Written}
-use Rattle.workfile.specs.Promises.{writeSays, writeOf, contentWith, WritePromise}
-use Rattle.notation.specs.declared.Contents.{Contents}
+use Rattle.workfile.specs.Promises.{writeSays, writeOf, contentWith, over, WritePromise}
+use Rattle.workfile.specs.declared.Contents.{Contents}
 use Rattle.notation.specs.declared.ParseAnswer.{ParseAnswer}
 use Rattle.notation.specs.declared.ParseAnswer.the-variants.{Parsed}
-use Rattle.notation.specs.Parse.{parseSays, parseOf, counted, over, ParsePost}
+use Rattle.notation.specs.Parse.{parseSays, parseOf, counted, ParsePost}
 
 over-long : (new old result : List ℕ) → result ≡ over new old → length new ≤ length result
 over-long new old result e = omega (arith, ap length e, length-append new (drop (length new) old))

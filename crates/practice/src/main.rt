@@ -11,10 +11,15 @@ fn main() {
     sheet::sizes();
     sheet::rounds();
     sheet::all_full();
+    sheet::draw_refused();
+    sheet::interval_of_40();
     sheet::draws();
+    sheet::start_of_25();
     sheet::projections();
     sheet::judgements();
     sheet::widest_interval();
+    sheet::wider_interval();
+    sheet::widest_starts();
     sheet::most_errors();
     longest::all();
     example::draws();

@@ -82,7 +82,8 @@ pub fn all_full() {
     );
 }
 
-pub fn draws() {
+// A start that does not fit leaves the marks.
+pub fn draw_refused() {
     let ledger = [30, 30, 40, 20];
     let mut marks = [9u8; 4];
     steps::draw(
@@ -94,14 +95,23 @@ pub fn draws() {
         40,
         &mut marks,
     );
+}
+
+pub fn interval_of_40() {
+    let mut marks = [9u8; 4];
     steps::split(
         b"split of 30, 30, 40, 20, n 3",
         b" 40 3 120 0 0",
         b" 0 0 0 0",
-        &ledger,
+        &[30, 30, 40, 20],
         3,
         &mut marks,
     );
+}
+
+pub fn draws() {
+    let ledger = [30, 30, 40, 20];
+    let mut marks = [9u8; 4];
     steps::draw(
         b"draw at start 0",
         b" 3",
@@ -129,6 +139,9 @@ pub fn draws() {
         30,
         &mut marks,
     );
+}
+
+pub fn start_of_25() {
     steps::start(b"start below 40 from 63, 25", b" 25 2", 40, &[63, 25]);
 }
 
@@ -182,15 +195,21 @@ pub fn widest_interval() {
         1,
         &mut marks,
     );
-    let mut others = [9u8; 1];
+}
+
+pub fn wider_interval() {
+    let mut marks = [9u8; 1];
     steps::split(
         b"split of one cent more",
         b" refused 10 0",
         b" 9",
         &[4_000_000_001],
         1,
-        &mut others,
+        &mut marks,
     );
+}
+
+pub fn widest_starts() {
     steps::start(
         b"start below 4000000000 from 0",
         b" 0 1",

@@ -1,66 +1,39 @@
 // Runs every operation on the cases of standard input and writes a line for each: the answer, and a digest of every lent list.
 // The form of the cases is told in docs/VECTORS.md.
 mod bytes; // bytes.rt: files of the input
-mod cases; // cases.rt: one case of each operation
+mod files; // files.rt: cases of the working file
 mod input; // input.rt: the input's bytes and numbers
+mod lines; // lines.rt: a line of the output
 mod lists; // lists.rt: lists of the input
 mod rooms; // rooms.rt: lent rooms and digests
+mod steps; // steps.rt: cases of steps 1 to 7
 
-use cases::Done;
-use pen::Pen;
+// The most lines that a case lends.
+const LEDGER: usize = 100_000;
 
-fn write_line(page: &[u8], pen: Pen) {
-    let length = pen.at;
-    if length <= page.len() {
-        io::write_all(1, &page[..length]);
-    }
-}
-
-// A case of steps 1 to 6, by the number of its operation; the answer goes on the page.
+// A case of steps 1 to 7, by the number of its operation; answers the place of the next case.
 fn step_case(
     input: &[u8],
     at: usize,
+    number: u64,
     ledger: &mut [u64],
     errors: &mut [u64],
     words: &mut [u64],
     marks: &mut [u8],
-    pen: Pen,
-    page: &mut [u8],
-) -> Done {
+) -> usize {
     let fields = input::on(input, at, 1);
     match input::byte_at(input, at) {
-        1 => cases::size(input, fields, pen, page),
-        2 => cases::split(input, fields, ledger, marks, pen, page),
-        3 => cases::start(input, fields, words, pen, page),
-        4 => cases::draw(input, fields, ledger, marks, pen, page),
-        5 => cases::project(input, fields, ledger, errors, pen, page),
-        _ => cases::judge(input, fields, ledger, errors, pen, page),
+        1 => steps::size(input, fields, number),
+        2 => steps::split(input, fields, number, ledger, marks),
+        3 => steps::start(input, fields, number, words),
+        4 => steps::draw(input, fields, number, ledger, marks),
+        5 => steps::project(input, fields, number, ledger, errors),
+        _ => steps::judge(input, fields, number, ledger, errors),
     }
 }
 
 // A case of a step, or of the working file: 7 is a read and 8 a write.
-fn answer_case(
-    input: &[u8],
-    at: usize,
-    ledger: &mut [u64],
-    errors: &mut [u64],
-    words: &mut [u64],
-    marks: &mut [u8],
-    file: &mut [u8],
-    out: &mut [u8],
-    pen: Pen,
-    page: &mut [u8],
-) -> Done {
-    let fields = input::on(input, at, 1);
-    match input::byte_at(input, at) {
-        7 => cases::read(input, fields, out, file, words, ledger, errors, pen, page),
-        8 => cases::write(input, fields, words, ledger, errors, out, pen, page),
-        _ => step_case(input, at, ledger, errors, words, marks, pen, page),
-    }
-}
-
-// One case and its line; answers the place of the next.
-fn run_case(
+fn any_case(
     input: &[u8],
     at: usize,
     number: u64,
@@ -71,25 +44,12 @@ fn run_case(
     file: &mut [u8],
     out: &mut [u8],
 ) -> usize {
-    let mut page = [0u8; 256];
-    let start = Pen { at: 0 };
-    let opened = start.number(&mut page, number);
-    let done = answer_case(
-        input,
-        at,
-        ledger,
-        errors,
-        words,
-        marks,
-        file,
-        out,
-        opened,
-        &mut page,
-    );
-    let answered = done.pen;
-    let ended = answered.byte(&mut page, 10);
-    write_line(&page, ended);
-    done.next
+    let fields = input::on(input, at, 1);
+    match input::byte_at(input, at) {
+        7 => files::read(input, fields, number, out, file, words, ledger, errors),
+        8 => files::write(input, fields, number, words, ledger, errors, out),
+        _ => step_case(input, at, number, ledger, errors, words, marks),
+    }
 }
 
 // Case after case, to the byte 0. There are fewer cases than bytes.
@@ -108,7 +68,7 @@ fn run(
         if input::byte_at(input, at) == 0 {
             return;
         }
-        at = run_case(
+        at = any_case(
             input,
             at,
             number as u64,
@@ -125,10 +85,10 @@ fn run(
 
 fn main() {
     let mut input = [0u8; 600_000];
-    let mut ledger = [0u64; 100_000];
-    let mut errors = [0u64; 100_000];
+    let mut ledger = [0u64; LEDGER];
+    let mut errors = [0u64; LEDGER];
     let mut words = [0u64; 5_000];
-    let mut marks = [0u8; 100_000];
+    let mut marks = [0u8; LEDGER];
     let mut file = [0u8; 45_664];
     let mut out = [0u8; 46_000];
     let length = io::read_full(0, &mut input);

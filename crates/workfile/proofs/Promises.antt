@@ -94,20 +94,24 @@ wrote c room bs =
 pub written-reads : (c : Content) (room : ℕ) (bs : List ℕ) → Fit c → writeOf c room ≡ accepted bs → decode bs ≡ accepted c
 written-reads c room bs f e = let q = wrote c room bs e in ap decode (sym (q .1)) ∙ round-trip c f (q .0)
 
+-- a content within its limits is written, where there is room for its file
+pub counts-write : (c : Content) (room : ℕ) → Counts c → length (encode c) ≤ room → writeOf c room ≡ accepted (encode c)
+unfolding writeOf
+counts-write c room k h =
+    rw (
+      eq-eqb (length (c .errors)) (length (c .values)) (k .same),
+      le-leb (length (c .words)) mostWords (k .few-words),
+      le-leb (length (c .values)) mostFileLines (k .few-lines),
+      lt-ltb (sum (c .values)) sumBound (k .total),
+      le-ltb room (length (encode c)) h,
+    )
+
 -- writing what a legal file reads to gives that file
 pub read-writes : (f : List ℕ) (d : Content) (room : ℕ) → Bytes f → decode f ≡ accepted d → length f ≤ room → writeOf d room ≡ accepted f
-unfolding writeOf
 read-writes f d room b e h =
-    let k = read-counts f d e in
     let o = one-file f d b e in
     let l : length (encode d) ≤ room = rw o h in
-    rw (
-      eq-eqb (length (d .errors)) (length (d .values)) (k .same),
-      le-leb (length (d .words)) mostWords (k .few-words),
-      le-leb (length (d .values)) mostFileLines (k .few-lines),
-      lt-ltb (sum (d .values)) sumBound (k .total),
-      le-ltb room (length (encode d)) l,
-    ) (ap accepted o)
+    counts-write d room (read-counts f d e) l ∙ ap accepted o
 
 -- what the buffers hold after an answer with these counts
 abbrev pub heldBy : Contents → List ℕ → List ℕ → List ℕ → Content

@@ -39,8 +39,8 @@ same-length-6 c = search needs
 returns : tie.Need-returns Inv-loop μ-loop
 returns c = search needs
 
-run-case-requires : tie.Need-run-case-requires Inv-loop μ-loop
-run-case-requires c κs = search needs
+any-case-requires : tie.Need-any-case-requires Inv-loop μ-loop
+any-case-requires c κs = search needs
 
 add-number : tie.Need-add-number Inv-loop μ-loop
 add-number c = search needs
@@ -87,7 +87,7 @@ run-spec =
     same-length-5
     same-length-6
     returns
-    run-case-requires
+    any-case-requires
     add-number
     loop-less
     loop-again

@@ -1,0 +1,164 @@
+// A case of a read and of a write: it lends what the input gives, calls the operation and writes the line. Each answers the place of
+// the next case.
+use crate::bytes;
+use crate::input::byte_at;
+use crate::input::eight;
+use crate::input::four;
+use crate::input::on;
+use crate::lines;
+use crate::lists;
+use crate::rooms;
+use workfile::ReadAnswer;
+use workfile::WriteAnswer;
+
+fn tell_read(
+    number: u64,
+    answer: ReadAnswer,
+    file: &[u8],
+    words: &[u64],
+    values: &[u64],
+    errors: &[u64],
+) {
+    let mut page = [0u8; lines::PAGE];
+    let opened = lines::open(&mut page, number, b" read");
+    let answered = answers::put_read(opened, &mut page, answer);
+    let lent = answered.text(&mut page, b" lent");
+    let first = lines::more_bytes(&mut page, lent, file);
+    let second = lines::more_numbers(&mut page, first, words);
+    let third = lines::more_numbers(&mut page, second, values);
+    let fourth = lines::more_numbers(&mut page, third, errors);
+    lines::close(&mut page, fourth);
+}
+
+// The file is read into rooms that hold what they hold before every call.
+fn read_into(number: u64, file: &[u8], words: &mut [u64], values: &mut [u64], errors: &mut [u64]) {
+    rooms::fill_numbers(words);
+    rooms::fill_numbers(values);
+    rooms::fill_numbers(errors);
+    let answer = reader::read(file, words, values, errors);
+    tell_read(number, answer, file, words, values, errors);
+}
+
+// The rooms of a read, whose lengths stand after its file.
+fn read_in(
+    input: &[u8],
+    after: usize,
+    number: u64,
+    file: &[u8],
+    words: &mut [u64],
+    values: &mut [u64],
+    errors: &mut [u64],
+) {
+    let word_room = rooms::length_of(four(input, after), words.len());
+    let value_room = rooms::length_of(four(input, on(input, after, 4)), values.len());
+    let error_room = rooms::length_of(four(input, on(input, after, 8)), errors.len());
+    read_into(
+        number,
+        file,
+        &mut words[..word_room],
+        &mut values[..value_room],
+        &mut errors[..error_room],
+    );
+}
+
+pub fn read(
+    input: &[u8],
+    at: usize,
+    number: u64,
+    written: &[u8],
+    file: &mut [u8],
+    words: &mut [u64],
+    values: &mut [u64],
+    errors: &mut [u64],
+) -> usize {
+    let after = bytes::end(input, at);
+    let length = lists::count(input, at, file.len());
+    bytes::fill(input, at, written, &mut file[..length]);
+    read_in(input, after, number, &file[..length], words, values, errors);
+    on(input, after, 12)
+}
+
+fn tell_write(
+    number: u64,
+    answer: WriteAnswer,
+    words: &[u64],
+    values: &[u64],
+    errors: &[u64],
+    out: &[u8],
+) {
+    let mut page = [0u8; lines::PAGE];
+    let opened = lines::open(&mut page, number, b" write");
+    let answered = answers::put_write(opened, &mut page, answer);
+    let first = lines::lent(&mut page, answered, words);
+    let second = lines::more_numbers(&mut page, first, values);
+    let third = lines::more_numbers(&mut page, second, errors);
+    let fourth = lines::more_bytes(&mut page, third, out);
+    lines::close(&mut page, fourth);
+}
+
+// The three lists of a write, one after the other.
+fn fill_three(input: &[u8], at: usize, words: &mut [u64], values: &mut [u64], errors: &mut [u64]) {
+    let value_list = lists::end(input, at);
+    lists::fill(input, at, words);
+    lists::fill(input, value_list, values);
+    lists::fill(input, lists::end(input, value_list), errors);
+}
+
+// The plan of a write stands at a place, and is written with its lists.
+fn write_out(
+    input: &[u8],
+    at: usize,
+    words: &[u64],
+    values: &[u64],
+    errors: &[u64],
+    out: &mut [u8],
+) -> WriteAnswer {
+    let level = byte_at(input, at);
+    let te = eight(input, on(input, at, 1));
+    let ae = eight(input, on(input, at, 9));
+    rooms::fill_bytes(out);
+    writer::write(level, te, ae, words, values, errors, out)
+}
+
+fn write_on(
+    input: &[u8],
+    at: usize,
+    number: u64,
+    words: &mut [u64],
+    values: &mut [u64],
+    errors: &mut [u64],
+    out: &mut [u8],
+) {
+    fill_three(input, on(input, at, 17), words, values, errors);
+    let answer = write_out(input, at, words, values, errors, out);
+    tell_write(number, answer, words, values, errors, out);
+}
+
+pub fn write(
+    input: &[u8],
+    at: usize,
+    number: u64,
+    words: &mut [u64],
+    values: &mut [u64],
+    errors: &mut [u64],
+    out: &mut [u8],
+) -> usize {
+    let list = on(input, at, 17);
+    let value_list = lists::end(input, list);
+    let error_list = lists::end(input, value_list);
+    let after = lists::end(input, error_list);
+    let word_count = lists::count(input, list, words.len());
+    let value_count = lists::count(input, value_list, values.len());
+    let error_count = lists::count(input, error_list, errors.len());
+    let room = rooms::length_of(four(input, after), out.len());
+    write_on(
+        input,
+        at,
+        number,
+        &mut words[..word_count],
+        &mut values[..value_count],
+        &mut errors[..error_count],
+        &mut out[..room],
+    );
+    on(input, after, 4)
+}

@@ -3,5 +3,4 @@ pub mod Sums
 pub mod Fair
 pub mod Demand3
 pub mod Worked
-pub mod Unique
 pub mod Practice

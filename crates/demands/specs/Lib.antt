@@ -1,4 +1,3 @@
 pub mod Starts
 pub mod Demand3
-pub mod Unique
 pub mod Practice

@@ -28,7 +28,7 @@ use Rattle.judge.specs.declared.JudgeAnswer.{JudgeAnswer}
 use Rattle.judge.specs.declared.JudgeAnswer.the-variants as judge
 use Rattle.judge.specs.Judge.{judgeSays}
 use Rattle.workfile.proofs.Promises.{read-once, write-once}
-use Rattle.demands.specs.Unique.{NoFreedom}
+use Rattle.contracts.specs.Unique.{NoFreedom}
 
 -- an answer holds what was accepted, or a refusal
 data Made {A R : Type 0} (value : A → R) (refusal : Refusal → R) : R → Type 0 where

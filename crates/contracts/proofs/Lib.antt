@@ -1,0 +1,2 @@
+-- The proof that no contract leaves freedom.
+pub mod Unique

@@ -8,9 +8,9 @@ use Rattle.terms.specs.declared.Refusal.the-variants.{RoomTooShort}
 use Rattle.terms.specs.Outcome.{Outcome, accepted, refused, left}
 use Rattle.pen.specs.Page as Page
 use Rattle.workfile.specs.declared.Plan.{Plan}
-use Rattle.sheet.specs.declared.Answers.{Answers}
+use Rattle.steps.specs.declared.Answers.{Answers}
 use Rattle.sheet.specs.declared.SheetAnswer.the-variants.{Printed, Refused}
-use Rattle.sheet.specs.Steps.{stepsOf}
+use Rattle.steps.specs.Steps.{stepsOf}
 use Rattle.sheet.specs.Lines.{answersText}
 use Rattle.sheet.specs.Sheet.{textBy, stepsText, sheetText, longestText, sheetOf, SheetPromise}
 

@@ -25,9 +25,10 @@ use Rattle.project.proofs.Amounts.{amount-most}
 use Rattle.judge.specs.declared.Verdict.{Verdict}
 use Rattle.judge.specs.declared.Verdict.the-variants.{Below, Inconclusive, Above}
 use Rattle.judge.specs.declared.Judgement.{Judgement}
-use Rattle.sheet.specs.declared.Planned.{Planned}
-use Rattle.sheet.specs.declared.Answers.{Answers}
-use Rattle.sheet.specs.Lines.{planLine, splitLine, startLine, stateText, itemText, itemsText, projectLine, verdictWord, judgeLine, refusedLine, ledgerText, answersText, Printable}
+use Rattle.steps.specs.declared.Planned.{Planned}
+use Rattle.steps.specs.declared.Answers.{Answers}
+use Rattle.steps.specs.Steps.{Passed}
+use Rattle.sheet.specs.Lines.{planLine, splitLine, startLine, stateText, itemText, itemsText, projectLine, verdictWord, judgeLine, refusedLine, ledgerText, answersText}
 use Rattle.sheet.proofs.Items.{rest-all}
 
 -- the entries of a list fit
@@ -66,7 +67,7 @@ walk-short J next item (v ∷ vs) errors h narrow w hv he =
     (λ k. subst Small (sym (front k)) (he (suc k))) in
     omega (arith, length-append (itemText item l) (itemsText (suc item) (linesWalk J (stepOf J next v) vs (drop 1 errors))), first, later)
 
-pub ledger-short : (J start : ℕ) (ledger errors : List ℕ) → Small (length ledger) → Printable J ledger errors → Fit ledger → Fit errors →
+pub ledger-short : (J start : ℕ) (ledger errors : List ℕ) → Small (length ledger) → Passed J ledger errors → Fit ledger → Fit errors →
     length (ledgerText J start ledger errors) ≤ 90 * length ledger
 ledger-short J start ledger errors h p hv he =
     rw (rest-all J ledger errors start) (walk-short J start 0 ledger errors (omega arith) (p .narrow) (p .within) hv he)
@@ -142,7 +143,7 @@ module _ (j : Judgement) (s : SmallJudgement j) where
         verdict-short (j .verdict),
       )
 
-pub answers-short : (ledger errors : List ℕ) (a : Answers) → SmallAnswers a → Small (length ledger) → Printable (a .figures .interval) ledger errors → Fit ledger → Fit errors →
+pub answers-short : (ledger errors : List ℕ) (a : Answers) → SmallAnswers a → Small (length ledger) → Passed (a .figures .interval) ledger errors → Fit ledger → Fit errors →
     length (answersText ledger errors a) ≤ 401 + 90 * length ledger
 unfolding answersText
 answers-short ledger errors a s h p hv he =

@@ -1,6 +1,4 @@
 // The lines of the sheet, each written from the pen's place on.
-use crate::Answers;
-use crate::Planned;
 use judge::Judgement;
 use judge::Verdict;
 use pen::Pen;
@@ -9,12 +7,15 @@ use project::Projection;
 use project::State;
 use split::Figures;
 use start::Chosen;
+use steps::Answers;
+use steps::Planned;
 use terms::Refusal;
 ghost use Prim.Native.Nat.{_+_, _*_, _≤_};
 ghost use lib.ListN.{length};
 ghost use Rattle.terms.specs.Refusals.{number, place};
 ghost use Rattle.pen.specs.Page.{Wrote};
-ghost use Rattle.sheet.specs.Lines.{planLine, splitLine, startLine, itemText, ledgerText, projectLine, verdictWord, judgeLine, refusedLine, answersText, Printable};
+ghost use Rattle.steps.specs.Steps.{Passed};
+ghost use Rattle.sheet.specs.Lines.{planLine, splitLine, startLine, itemText, ledgerText, projectLine, verdictWord, judgeLine, refusedLine, answersText};
 
 fn plan_line(pen: Pen, page: &mut [u8], planned: Planned) -> Pen
     ensures { λ r. ⌜ Wrote (now (page .entry)) (pen .at) (planLine planned) (now (page .exit)) (r .at) ⌝ }
@@ -71,7 +72,7 @@ fn ledger_lines(
     interval: u64,
     start: u64,
 ) -> Pen
-    requires { ⌜ Printable interval (now ledger) (now errors) ⌝ }
+    requires { ⌜ Passed interval (now ledger) (now errors) ⌝ }
     ensures { λ r. ⌜ Wrote (now (page .entry)) (pen .at) (ledgerText interval start (now (ledger .entry)) (now (errors .entry))) (now (page .exit)) (r .at) ⌝ }
 {
     let mut at = pen;
@@ -135,7 +136,7 @@ pub fn answers_text(
     ledger: &[u64],
     errors: &[u64],
 ) -> Pen
-    requires { ⌜ Printable (answers .figures .interval) (now ledger) (now errors) ⌝ }
+    requires { ⌜ Passed (answers .figures .interval) (now ledger) (now errors) ⌝ }
     ensures { λ r. ⌜ Wrote (now (page .entry)) (pen .at) (answersText (now (ledger .entry)) (now (errors .entry)) answers) (now (page .exit)) (r .at) ⌝ }
     ensures { λ r. ⌜ length (answersText (now (ledger .entry)) (now (errors .entry)) answers) ≤ 401 + 90 * length (now (ledger .entry)) ⌝ }
 {

@@ -11,9 +11,11 @@ use steps::Answers;
 use steps::Planned;
 use terms::Refusal;
 ghost use Prim.Native.Nat.{_+_, _*_, _≤_};
+ghost use mathlib.Core.List.{[], _∷_};
 ghost use lib.ListN.{length};
 ghost use Rattle.terms.specs.Refusals.{number, place};
 ghost use Rattle.pen.specs.Page.{Wrote};
+ghost use Rattle.pen.specs.Text.{more};
 ghost use Rattle.steps.specs.Steps.{Passed};
 ghost use Rattle.sheet.specs.Lines.{planLine, splitLine, startLine, itemText, ledgerText, projectLine, verdictWord, judgeLine, refusedLine, answersText};
 
@@ -95,13 +97,14 @@ fn project_line(pen: Pen, page: &mut [u8], projection: Projection) -> Pen
     pen.line(page, b"project", &numbers)
 }
 
+// The verdict's word as the last of a line.
 fn verdict_word(pen: Pen, page: &mut [u8], verdict: Verdict) -> Pen
-    ensures { λ r. ⌜ Wrote (now (page .entry)) (pen .at) (verdictWord verdict) (now (page .exit)) (r .at) ⌝ }
+    ensures { λ r. ⌜ Wrote (now (page .entry)) (pen .at) (more (verdictWord verdict ∷ [])) (now (page .exit)) (r .at) ⌝ }
 {
     match verdict {
-        Verdict::Below => pen.text(page, b"below"),
-        Verdict::Inconclusive => pen.text(page, b"inconclusive"),
-        Verdict::Above => pen.text(page, b"above"),
+        Verdict::Below => pen.text(page, b" below\n"),
+        Verdict::Inconclusive => pen.text(page, b" inconclusive\n"),
+        Verdict::Above => pen.text(page, b" above\n"),
     }
 }
 
@@ -112,9 +115,7 @@ fn judge_line(pen: Pen, page: &mut [u8], judgement: Judgement) -> Pen
     let opened = pen.text(page, b"judge");
     let precise = opened.field(page, judgement.precision);
     let limited = precise.field(page, judgement.upper_limit);
-    let spaced = limited.byte(page, 32);
-    let ended = verdict_word(spaced, page, verdict);
-    ended.byte(page, 10)
+    verdict_word(limited, page, verdict)
 }
 
 // The one line of a refusal.

@@ -8,9 +8,12 @@ use borrow.Author.Tests.{ltb-true}
 use lib.Dec.{ltb}
 use lib.ListN.{length, getD, drop, length-append}
 use lib.Seq.{getD-drop}
+use Rattle.terms.specs.declared.Refusal.{Refusal}
+use Rattle.terms.specs.Refusals.{number, place}
 use Rattle.terms.specs.Limits.{mostInterval}
 use Rattle.pen.specs.Letters.{letters}
 use Rattle.pen.specs.Text.{decimal}
+use Rattle.pen.specs.Page.{Wrote}
 use Rattle.pen.proofs.Lengths.{Small, decimal-short, line-short}
 use Rattle.split.specs.declared.Figures.{Figures}
 use Rattle.start.specs.declared.Chosen.{Chosen}
@@ -72,8 +75,13 @@ pub ledger-short : (J start : ℕ) (ledger errors : List ℕ) → Small (length 
 ledger-short J start ledger errors h p hv he =
     rw (rest-all J ledger errors start) (walk-short J start 0 ledger errors (omega arith) (p .narrow) (p .within) hv he)
 
-pub refused-short : (number place : ℕ) → Small number → Small place → length (refusedLine number place) ≤ 50
+refused-short : (number place : ℕ) → Small number → Small place → length (refusedLine number place) ≤ 50
 refused-short number place hn hp = omega (arith, line-short (letters "refused") (number ∷ place ∷ []) (hn, (hp, tt)))
+
+-- the line of a refusal, written with its number and its place
+pub refused-written : (why : Refusal) {n p at at′ : ℕ} {page page′ : List ℕ} → n ≡ number why → p ≡ place why → Small n → Small p → Wrote page at (refusedLine n p) page′ at′ →
+    Wrote page at (refusedLine (number why) (place why)) page′ at′ × (length (refusedLine (number why) (place why)) ≤ 50)
+refused-written why {n} {p} is-number is-place hn hp w = rw (← is-number, ← is-place) (w, refused-short n p hn hp)
 
 -- the figures fit
 pub record SmallPlanned (p : Planned) : Type 0 where

@@ -27,7 +27,7 @@ use Rattle.project.specs.declared.Projection.{Projection}
 use Rattle.project.specs.Lines.{linesOf, projectionOf, amountsOf}
 use Rattle.project.specs.Project.{checkedLines, projectionAt, projectOf}
 use Rattle.project.proofs.Passing.{all-passed}
-use Rattle.project.proofs.Laws.{checked-lines, project-from, projectNumbers, checked-gives}
+use Rattle.project.proofs.Laws.{checked-lines, project-from, projectNumbers, lineNumbers, checked-gives}
 use Rattle.precision.specs.Precision.{precisionOf, precisionCents}
 use Rattle.precision.proofs.Rounded.{never-negative, no-interval}
 use Rattle.judge.specs.declared.Verdict.{Verdict}
@@ -169,13 +169,17 @@ module _ (te projected limit : ℕ) where
 abbrev pub judgeNumbers : List ℕ
 judgeNumbers = projectNumbers ++ (1 ∷ 6 ∷ 16 ∷ [])
 
+-- those of the lines and of m
+abbrev pub lastNumbers : List ℕ
+lastNumbers = lineNumbers ++ (16 ∷ [])
+
 module _ (level : Level) (ledger : List ℕ) (n start : ℕ) (errors : List ℕ) (te : ℕ) where
-  lines-give : (J : ℕ) → Gives judgeNumbers (judgedAt level ledger start errors te J)
+  pub lines-give : (J : ℕ) → Gives lastNumbers (judgedAt level ledger start errors te J)
   unfolding judgedAt judgedLines checkedLines
   lines-give J =
-      gives-after judgeNumbers (judgedLines level te J) (checkedLines J start ledger errors)
-      (gives-among projectNumbers judgeNumbers tt (checkedLines J start ledger errors) (checked-gives 0 (linesOf J start ledger errors)))
-      (λ good. by-test (Gives judgeNumbers) (ltb mostErrors (projectionOf good .m)) (λ t. tt) (λ t. tt))
+      gives-after lastNumbers (judgedLines level te J) (checkedLines J start ledger errors)
+      (gives-among lineNumbers lastNumbers tt (checkedLines J start ledger errors) (checked-gives 0 (linesOf J start ledger errors)))
+      (λ good. by-test (Gives lastNumbers) (ltb mostErrors (projectionOf good .m)) (λ t. tt) (λ t. tt))
 
   level-known-gives : Gives judgeNumbers (judgedLedger ledger n start errors te level)
   unfolding judgedLedger judgedFigures
@@ -184,7 +188,7 @@ module _ (level : Level) (ledger : List ℕ) (n start : ℕ) (errors : List ℕ)
       (λ total. by-test (Gives judgeNumbers) (outOfRange te total) (λ t. tt)
       (λ t. gives-after judgeNumbers (λ figures. judgedAt level ledger start errors te (figures .interval)) (figuresFor ledger n start (length errors))
       (gives-among drawNumbers judgeNumbers tt (figuresFor ledger n start (length errors)) (figures-give ledger n start (length errors)))
-      (λ figures. lines-give (figures .interval))))
+      (λ figures. gives-among lastNumbers judgeNumbers tt (judgedAt level ledger start errors te (figures .interval)) (lines-give (figures .interval)))))
 
 pub judge-gives : (percent : ℕ) (ledger : List ℕ) (n start : ℕ) (errors : List ℕ) (te : ℕ) → Gives judgeNumbers (judgeOf percent ledger n start errors te)
 unfolding judgeOf

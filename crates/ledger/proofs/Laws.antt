@@ -4,13 +4,13 @@ use mathlib.Core.List.{List, [], _∷_}
 use mathlib.Core.Bool.{Bool, true, false}
 use Prim.Native.Nat.{ℕ, zero, suc, _+_, _≤_, _<_}
 use native.Mathlib.Omega.{arith}
-use borrow.Author.Tests.{ltb-false, eqb-true, eqb-false}
+use borrow.Author.Tests.{ltb-true, ltb-false, eqb-true, eqb-false}
 use lib.ListN.{length}
 use lib.Dec.{ltb, eqb}
 use Rattle.terms.specs.Outcome.{Outcome, accepted, refused, after}
 use Rattle.terms.specs.Numbers.{pick, sum}
 use Rattle.terms.specs.Limits.{mostLines, mostValue, mostTotal}
-use Rattle.terms.proofs.Outcomes.{never, after-accepted, Gives, gives-after}
+use Rattle.terms.proofs.Outcomes.{never, after-accepted, Gives, gives-after, gives-among}
 use Rattle.terms.proofs.Tests.{by-test}
 use Rattle.ledger.specs.Ledger.{linesFrom, linesOf, someTotal, ledgerOf}
 
@@ -54,17 +54,32 @@ good l beside t =
 abbrev pub ledgerNumbers : List ℕ
 ledgerNumbers = 2 ∷ 13 ∷ 3 ∷ 4 ∷ 5 ∷ []
 
-lines-give : (line running : ℕ) (l : List ℕ) → Gives ledgerNumbers (linesFrom line running l)
+-- those that the values alone earn
+abbrev pub valueNumbers : List ℕ
+valueNumbers = 3 ∷ 4 ∷ 5 ∷ []
+
+lines-give : (line running : ℕ) (l : List ℕ) → Gives valueNumbers (linesFrom line running l)
 unfolding linesFrom
 lines-give line running [] = tt
 lines-give line running (v ∷ l) =
-    by-test (Gives ledgerNumbers) (ltb mostValue v) (λ p. tt)
-    (λ p. by-test (Gives ledgerNumbers) (ltb mostTotal (running + v)) (λ q. tt) (λ q. lines-give (suc line) (running + v) l))
+    by-test (Gives valueNumbers) (ltb mostValue v) (λ p. tt)
+    (λ p. by-test (Gives valueNumbers) (ltb mostTotal (running + v)) (λ q. tt) (λ q. lines-give (suc line) (running + v) l))
+
+total-gives : (l : List ℕ) → Gives valueNumbers (after someTotal (linesOf l))
+unfolding linesOf
+total-gives l =
+    gives-after valueNumbers someTotal (linesFrom 0 0 l) (lines-give 0 0 l) (λ total. by-test (Gives valueNumbers) (eqb total 0) (λ z. tt) (λ z. tt))
 
 pub ledger-gives : (ledger : List ℕ) (beside : ℕ) → Gives ledgerNumbers (ledgerOf ledger beside)
-unfolding ledgerOf linesOf
+unfolding ledgerOf
 ledger-gives l beside =
     by-test (Gives ledgerNumbers) (ltb mostLines (length l)) (λ p. tt)
     (λ p. by-test (Gives ledgerNumbers) (eqb beside (length l))
-    (λ q. gives-after ledgerNumbers someTotal (linesFrom 0 0 l) (lines-give 0 0 l)
-    (λ total. by-test (Gives ledgerNumbers) (eqb total 0) (λ z. tt) (λ z. tt))) (λ q. tt))
+    (λ q. gives-among valueNumbers ledgerNumbers tt (after someTotal (linesOf l)) (total-gives l)) (λ q. tt))
+
+-- with lengths that are right, those of the values alone
+pub values-give : (ledger : List ℕ) (beside : ℕ) → length ledger ≤ mostLines → beside ≡ length ledger → Gives valueNumbers (ledgerOf ledger beside)
+unfolding ledgerOf
+values-give l beside few same =
+    by-test (Gives valueNumbers) (ltb mostLines (length l)) (λ p. absurd (omega (arith, ltb-true mostLines (length l) p)))
+    (λ p. by-test (Gives valueNumbers) (eqb beside (length l)) (λ q. total-gives l) (λ q. absurd (eqb-false _ _ q same)))

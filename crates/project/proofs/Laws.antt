@@ -92,20 +92,25 @@ project-facts ledger n start errors p e =
 abbrev pub projectNumbers : List ℕ
 projectNumbers = drawNumbers ++ (14 ∷ 15 ∷ [])
 
-pub checked-gives : (item : ℕ) (ls : List Line) → Gives projectNumbers (checkedFrom item ls)
+-- those of the lines
+abbrev pub lineNumbers : List ℕ
+lineNumbers = 14 ∷ 15 ∷ []
+
+pub checked-gives : (item : ℕ) (ls : List Line) → Gives lineNumbers (checkedFrom item ls)
 unfolding checkedFrom checkedLine
 checked-gives item [] = tt
 checked-gives item (l ∷ ls) =
-    gives-after projectNumbers (λ k. after (λ rest. accepted (k ∷ rest)) (checkedFrom (suc item) ls)) (checkedLine item l)
-    (by-test (Gives projectNumbers) (ltb (l .value) (l .error)) (λ p. tt) (λ p. by-test (Gives projectNumbers) (misplaced (l .state) (l .error)) (λ q. tt) (λ q. tt)))
-    (λ k. gives-after projectNumbers (λ rest. accepted (k ∷ rest)) (checkedFrom (suc item) ls) (checked-gives (suc item) ls) (λ rest. tt))
+    gives-after lineNumbers (λ k. after (λ rest. accepted (k ∷ rest)) (checkedFrom (suc item) ls)) (checkedLine item l)
+    (by-test (Gives lineNumbers) (ltb (l .value) (l .error)) (λ p. tt) (λ p. by-test (Gives lineNumbers) (misplaced (l .state) (l .error)) (λ q. tt) (λ q. tt)))
+    (λ k. gives-after lineNumbers (λ rest. accepted (k ∷ rest)) (checkedFrom (suc item) ls) (checked-gives (suc item) ls) (λ rest. tt))
 
 pub project-gives : (ledger : List ℕ) (n start : ℕ) (errors : List ℕ) → Gives projectNumbers (projectOf ledger n start errors)
 unfolding projectOf projectionAt checkedLines
 project-gives ledger n start errors =
     gives-after projectNumbers (projectedBy ledger start errors) (figuresFor ledger n start (length errors))
     (gives-among drawNumbers projectNumbers tt (figuresFor ledger n start (length errors)) (figures-give ledger n start (length errors)))
-    (λ f. gives-after projectNumbers (λ lines. accepted (projectionOf lines)) (checkedLines (f .interval) start ledger errors) (checked-gives 0 (linesOf (f .interval) start ledger errors)) (λ lines. tt))
+    (λ f. gives-after projectNumbers (λ lines. accepted (projectionOf lines)) (checkedLines (f .interval) start ledger errors)
+    (gives-among lineNumbers projectNumbers tt (checkedLines (f .interval) start ledger errors) (checked-gives 0 (linesOf (f .interval) start ledger errors))) (λ lines. tt))
 
 -- a line's state and its mark
 abbrev pub markOf : State → ℕ

@@ -1,6 +1,4 @@
 -- What the proofs of several functions use, and what callers cite.
-pub mod Following
-pub mod Accepted
 pub mod Items
 pub mod Room
 pub mod Reading

@@ -1,5 +1,6 @@
 -- The text of the steps' outcome, and the page that is too short and the one that is not. Assumes nothing.
-use Prim.Native.Nat.{ℕ, _≤_, _<_}
+use Prim.Native.Nat.{ℕ, _+_, _*_, _≤_, _<_}
+use native.Mathlib.Omega.{arith}
 use mathlib.Core.Path.{_≡_, sym, ap, _∙_}
 use mathlib.Core.List.{List, _++_}
 use borrow.Author.Tests.{lt-ltb, le-ltb}
@@ -7,12 +8,20 @@ use lib.ListN.{length, drop}
 use Rattle.terms.specs.declared.Refusal.the-variants.{RoomTooShort}
 use Rattle.terms.specs.Outcome.{Outcome, accepted, refused, left}
 use Rattle.pen.specs.Page as Page
+use Rattle.pen.proofs.Writing.{as-text}
 use Rattle.workfile.specs.declared.Plan.{Plan}
-use Rattle.sheet.specs.declared.Answers.{Answers}
+use Rattle.steps.specs.declared.Answers.{Answers}
 use Rattle.sheet.specs.declared.SheetAnswer.the-variants.{Printed, Refused}
-use Rattle.sheet.specs.Steps.{stepsOf}
+use Rattle.steps.specs.Steps.{stepsOf}
 use Rattle.sheet.specs.Lines.{answersText}
 use Rattle.sheet.specs.Sheet.{textBy, stepsText, sheetText, longestText, sheetOf, SheetPromise}
+
+-- a text that was written is the one that is asked for, and no longer than that may be
+pub as-bounded : {o o′ x y : List ℕ} {a a′ most more : ℕ} → y ≡ x → most ≤ more → Page.Wrote o a x o′ a′ × (length x ≤ most) → Page.Wrote o a y o′ a′ × (length y ≤ more)
+as-bounded e h w = (as-text e (w .0), omega (arith, ap length e, w .1))
+
+pub refused-room : (n : ℕ) → 50 ≤ 401 + 90 * n
+refused-room n = omega arith
 
 pub steps-text : (plan : Plan) (words ledger errors : List ℕ) {o : Outcome Answers} → o ≡ stepsOf plan words ledger errors →
     stepsText plan words ledger errors ≡ textBy (answersText ledger errors) o

@@ -1,8 +1,8 @@
 -- From what the reader promises to the text of the file. Assumes nothing.
-use Prim.Native.Nat.{ℕ, _≤_}
+use Prim.Native.Nat.{ℕ, zero, suc, _+_, _*_, _≤_}
 use native.Mathlib.Omega.{arith}
 use mathlib.Core.Path.{_≡_, sym, ap, _∙_}
-use mathlib.Core.List.{List}
+use mathlib.Core.List.{List, [], _∷_}
 use lib.ListN.{length, take, replicate}
 use Rattle.terms.specs.declared.Refusal.{Refusal}
 use Rattle.terms.specs.Refusals.{number, place}
@@ -17,7 +17,7 @@ use Rattle.workfile.specs.Promises.{readSays, counted, countsOf, planWith, Room
 use Rattle.workfile.proofs.OneFile.{read-counts}
 use Rattle.workfile.proofs.Promises.{roomy, heldBy, held}
 use Rattle.sheet.specs.Lines.{refusedLine}
-use Rattle.sheet.specs.Sheet.{textBy, stepsText, contentText, sheetText}
+use Rattle.sheet.specs.Sheet.{textBy, stepsText, contentText, sheetText, longestText}
 
 refused-before : {A B : Type 0} (g : A → B) (o : Outcome A) {n p : ℕ} → refused n p ≡ after (λ a. accepted (g a)) o → o ≡ refused n p
 refused-before g (accepted a) e = never e
@@ -25,6 +25,11 @@ refused-before g (refused m q) {n} {p} e =
     let number : m ≡ n = cc in
     let place : q ≡ p = cc in
     λ i. refused (number i) (place i)
+
+take-short : (n : ℕ) (l : List ℕ) → length (take n l) ≤ length l
+take-short zero l = omega arith
+take-short (suc n) [] = omega arith
+take-short (suc n) (x ∷ l) = omega (arith, take-short n l)
 
 -- the desk program's rooms hold every legal file
 pub desk-rooms : Rooms (replicate mostWords 0) (replicate mostFileLines 0) (replicate mostFileLines 0)
@@ -56,7 +61,7 @@ module _ {file : List ℕ} {k : Contents} {w v e : List ℕ} (at : AtRead file k
   counts-are : counted (heldBy k w v e) ≡ k
   counts-are = let z : accepted (counted (heldBy k w v e)) ≡ accepted k = sym (ap countsOf decodes) ∙ sym (decoded (at .rooms) (at .promise)) ∙ ap readSays (at .told) in cc
 
-  -- as many entries as the answer counts were read, and they are within the rooms
+  -- as many entries as the answer counts were read, and the rooms have so many
   pub words-long : k .words ≡ length (take (k .words) w)
   words-long = sym (ap (λ (x : Contents). x .words) counts-are)
 
@@ -66,12 +71,19 @@ module _ {file : List ℕ} {k : Contents} {w v e : List ℕ} (at : AtRead file k
   pub errors-long : k .lines ≡ length (take (k .lines) e)
   errors-long = values-long ∙ sym (read-counts file (heldBy k w v e) decodes .same)
 
-  pub words-few : k .words ≤ mostWords
-  words-few = omega (arith, words-long, read-counts file (heldBy k w v e) decodes .few-words)
+  pub words-fit : k .words ≤ length w
+  words-fit = omega (arith, words-long, take-short (k .words) w)
 
-  pub lines-few : k .lines ≤ mostFileLines
-  lines-few = omega (arith, values-long, read-counts file (heldBy k w v e) decodes .few-lines)
+  pub values-fit : k .lines ≤ length v
+  values-fit = omega (arith, values-long, take-short (k .lines) v)
+
+  pub errors-fit : k .lines ≤ length e
+  errors-fit = omega (arith, errors-long, take-short (k .lines) e)
 
   pub file-read : sheetText file ≡ stepsText (planWith (k .level) (k .te) (k .ae)) (take (k .words) w) (take (k .lines) v) (take (k .lines) e)
   unfolding sheetText
   file-read = ap (textBy contentText) decodes
+
+  -- the text has room
+  pub text-room : 401 + 90 * length (take (k .lines) v) ≤ longestText
+  text-room = omega (arith, read-counts file (heldBy k w v e) decodes .few-lines)

@@ -8,9 +8,12 @@ use borrow.Author.Tests.{ltb-true}
 use lib.Dec.{ltb}
 use lib.ListN.{length, getD, drop, length-append}
 use lib.Seq.{getD-drop}
+use Rattle.terms.specs.declared.Refusal.{Refusal}
+use Rattle.terms.specs.Refusals.{number, place}
 use Rattle.terms.specs.Limits.{mostInterval}
 use Rattle.pen.specs.Letters.{letters}
 use Rattle.pen.specs.Text.{decimal}
+use Rattle.pen.specs.Page.{Wrote}
 use Rattle.pen.proofs.Lengths.{Small, decimal-short, line-short}
 use Rattle.split.specs.declared.Figures.{Figures}
 use Rattle.start.specs.declared.Chosen.{Chosen}
@@ -25,9 +28,10 @@ use Rattle.project.proofs.Amounts.{amount-most}
 use Rattle.judge.specs.declared.Verdict.{Verdict}
 use Rattle.judge.specs.declared.Verdict.the-variants.{Below, Inconclusive, Above}
 use Rattle.judge.specs.declared.Judgement.{Judgement}
-use Rattle.sheet.specs.declared.Planned.{Planned}
-use Rattle.sheet.specs.declared.Answers.{Answers}
-use Rattle.sheet.specs.Lines.{planLine, splitLine, startLine, stateText, itemText, itemsText, projectLine, verdictWord, judgeLine, refusedLine, ledgerText, answersText, Printable}
+use Rattle.steps.specs.declared.Planned.{Planned}
+use Rattle.steps.specs.declared.Answers.{Answers}
+use Rattle.steps.specs.Steps.{Passed}
+use Rattle.sheet.specs.Lines.{planLine, splitLine, startLine, stateText, itemText, itemsText, projectLine, verdictWord, judgeLine, refusedLine, ledgerText, answersText}
 use Rattle.sheet.proofs.Items.{rest-all}
 
 -- the entries of a list fit
@@ -66,13 +70,18 @@ walk-short J next item (v ∷ vs) errors h narrow w hv he =
     (λ k. subst Small (sym (front k)) (he (suc k))) in
     omega (arith, length-append (itemText item l) (itemsText (suc item) (linesWalk J (stepOf J next v) vs (drop 1 errors))), first, later)
 
-pub ledger-short : (J start : ℕ) (ledger errors : List ℕ) → Small (length ledger) → Printable J ledger errors → Fit ledger → Fit errors →
+pub ledger-short : (J start : ℕ) (ledger errors : List ℕ) → Small (length ledger) → Passed J ledger errors → Fit ledger → Fit errors →
     length (ledgerText J start ledger errors) ≤ 90 * length ledger
 ledger-short J start ledger errors h p hv he =
     rw (rest-all J ledger errors start) (walk-short J start 0 ledger errors (omega arith) (p .narrow) (p .within) hv he)
 
-pub refused-short : (number place : ℕ) → Small number → Small place → length (refusedLine number place) ≤ 50
+refused-short : (number place : ℕ) → Small number → Small place → length (refusedLine number place) ≤ 50
 refused-short number place hn hp = omega (arith, line-short (letters "refused") (number ∷ place ∷ []) (hn, (hp, tt)))
+
+-- the line of a refusal, written with its number and its place
+pub refused-written : (why : Refusal) {n p at at′ : ℕ} {page page′ : List ℕ} → n ≡ number why → p ≡ place why → Small n → Small p → Wrote page at (refusedLine n p) page′ at′ →
+    Wrote page at (refusedLine (number why) (place why)) page′ at′ × (length (refusedLine (number why) (place why)) ≤ 50)
+refused-written why {n} {p} is-number is-place hn hp w = rw (← is-number, ← is-place) (w, refused-short n p hn hp)
 
 -- the figures fit
 pub record SmallPlanned (p : Planned) : Type 0 where
@@ -142,7 +151,7 @@ module _ (j : Judgement) (s : SmallJudgement j) where
         verdict-short (j .verdict),
       )
 
-pub answers-short : (ledger errors : List ℕ) (a : Answers) → SmallAnswers a → Small (length ledger) → Printable (a .figures .interval) ledger errors → Fit ledger → Fit errors →
+pub answers-short : (ledger errors : List ℕ) (a : Answers) → SmallAnswers a → Small (length ledger) → Passed (a .figures .interval) ledger errors → Fit ledger → Fit errors →
     length (answersText ledger errors a) ≤ 401 + 90 * length ledger
 unfolding answersText
 answers-short ledger errors a s h p hv he =

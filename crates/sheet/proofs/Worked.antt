@@ -27,7 +27,7 @@ use Rattle.workfile.specs.declared.FileRecord.{FileRecord}
 use Rattle.workfile.specs.declared.FileRecord.the-variants.{Word, Value, ErrorOf, End}
 use Rattle.pen.specs.Letters.{letters}
 use Rattle.pen.specs.Text.{decimalIn, decimal}
-use Rattle.sheet.specs.Steps.{judgedFrom, startedFrom, splitFrom, sizedFrom, totalledFrom, stepsOf}
+use Rattle.steps.specs.Steps.{judgedFrom, startedFrom, splitFrom, sizedFrom, totalledFrom, stepsOf}
 use Rattle.sheet.specs.Lines.{itemsText, ledgerText, answersText}
 use Rattle.sheet.specs.Sheet.{stepsText, sheetText}
 

@@ -1,9 +1,6 @@
 -- The lines of the sheet, as document 01 has them under "The practice sheet". These are definitions: nothing is assumed.
-use Prim.Native.Nat.{ℕ, suc, _≤_, _<_}
-use mathlib.Core.Path.{_≡_}
+use Prim.Native.Nat.{ℕ, suc}
 use mathlib.Core.List.{List, [], _∷_, _++_}
-use lib.ListN.{length, getD}
-use Rattle.terms.specs.Limits.{mostInterval}
 use Rattle.pen.specs.Letters.{letters}
 use Rattle.pen.specs.Text.{decimal, line}
 use Rattle.split.specs.declared.Figures.{Figures}
@@ -16,8 +13,8 @@ use Rattle.project.specs.Lines.{linesOf}
 use Rattle.judge.specs.declared.Verdict.{Verdict}
 use Rattle.judge.specs.declared.Verdict.the-variants.{Below, Inconclusive, Above}
 use Rattle.judge.specs.declared.Judgement.{Judgement}
-use Rattle.sheet.specs.declared.Planned.{Planned}
-use Rattle.sheet.specs.declared.Answers.{Answers}
+use Rattle.steps.specs.declared.Planned.{Planned}
+use Rattle.steps.specs.declared.Answers.{Answers}
 
 -- plan: level, total, TE, AE, draws
 abbrev pub planLine : Planned → List ℕ
@@ -77,9 +74,3 @@ answersText ledger errors a =
     ++ (ledgerText (a .figures .interval) (a .chosen .start) ledger errors
     ++ (projectLine (a .judgement .projection)
     ++ judgeLine (a .judgement)))))
-
--- what an accepted judgement leaves to the printing of the lines
-pub record Printable (J : ℕ) (ledger errors : List ℕ) : Type 0 where
-  pub narrow : J ≤ mostInterval
-  pub same : length errors ≡ length ledger
-  pub within : (item : ℕ) → item < length ledger → getD errors item 0 ≤ getD ledger item 0

@@ -11,7 +11,7 @@ use Rattle.workfile.specs.Content.{Content}
 use Rattle.workfile.specs.Decode.{decode}
 use Rattle.sheet.specs.declared.SheetAnswer.{SheetAnswer}
 use Rattle.sheet.specs.declared.SheetAnswer.the-variants.{Printed, Refused}
-use Rattle.sheet.specs.Steps.{stepsOf}
+use Rattle.steps.specs.Steps.{stepsOf}
 use Rattle.sheet.specs.Lines.{answersText, refusedLine}
 
 -- the text of an outcome: that of what is accepted, or the one line of a refusal

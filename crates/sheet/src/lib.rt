@@ -1,11 +1,8 @@
 // The desk program's whole text, from the bytes of a working file.
 mod lines; // lines.rt: the lines of the sheet
-mod steps; // steps.rt: the steps, one after the other
 
-use judge::Judgement;
 use pen::Pen;
-use split::Figures;
-use start::Chosen;
+use steps::StepsAnswer;
 use terms::Refusal;
 use workfile::Plan;
 use workfile::ReadAnswer;
@@ -19,28 +16,6 @@ pub const LONGEST_TEXT: usize = 184_721;
 
 // The text of an input is decided by so many of its first bytes (`first-bytes` of proofs/FirstBytes.antt).
 pub const DECIDING_BYTES: usize = workfile::LONGEST_FILE + 1;
-
-// The plan, with the ledger's total and the number of draws.
-pub struct Planned {
-    pub level: u8,
-    pub total: u64,
-    pub te: u64,
-    pub ae: u64,
-    pub draws: u64,
-}
-
-// What the steps have answered: every figure of the sheet but the lines.
-pub struct Answers {
-    pub planned: Planned,
-    pub figures: Figures,
-    pub chosen: Chosen,
-    pub judgement: Judgement,
-}
-
-pub enum StepsAnswer {
-    Answered(Answers),
-    Refused(Refusal),
-}
 
 // How many bytes were printed, or that the page is too short.
 pub enum SheetAnswer {
@@ -60,7 +35,7 @@ fn print_content(
     ensures { λ r. ⌜ Wrote (now (page .entry)) (pen .at) (stepsText plan (now (words .entry)) (now (ledger .entry)) (now (errors .entry))) (now (page .exit)) (r .at) ⌝ }
     ensures { λ r. ⌜ length (stepsText plan (now (words .entry)) (now (ledger .entry)) (now (errors .entry))) ≤ 401 + 90 * length (now (ledger .entry)) ⌝ }
 {
-    match steps::answers(plan, words, ledger, errors) {
+    match steps::steps(plan, words, ledger, errors) {
         StepsAnswer::Refused(why) => lines::refused_line(pen, page, why),
         StepsAnswer::Answered(answers) => lines::answers_text(pen, page, answers, ledger, errors),
     }

@@ -1,6 +1,4 @@
 // The lines of the sheet, each written from the pen's place on.
-use crate::Answers;
-use crate::Planned;
 use judge::Judgement;
 use judge::Verdict;
 use pen::Pen;
@@ -9,12 +7,17 @@ use project::Projection;
 use project::State;
 use split::Figures;
 use start::Chosen;
+use steps::Answers;
+use steps::Planned;
 use terms::Refusal;
 ghost use Prim.Native.Nat.{_+_, _*_, _≤_};
+ghost use mathlib.Core.List.{[], _∷_};
 ghost use lib.ListN.{length};
 ghost use Rattle.terms.specs.Refusals.{number, place};
 ghost use Rattle.pen.specs.Page.{Wrote};
-ghost use Rattle.sheet.specs.Lines.{planLine, splitLine, startLine, itemText, ledgerText, projectLine, verdictWord, judgeLine, refusedLine, answersText, Printable};
+ghost use Rattle.pen.specs.Text.{more};
+ghost use Rattle.steps.specs.Steps.{Passed};
+ghost use Rattle.sheet.specs.Lines.{planLine, splitLine, startLine, itemText, ledgerText, projectLine, verdictWord, judgeLine, refusedLine, answersText};
 
 fn plan_line(pen: Pen, page: &mut [u8], planned: Planned) -> Pen
     ensures { λ r. ⌜ Wrote (now (page .entry)) (pen .at) (planLine planned) (now (page .exit)) (r .at) ⌝ }
@@ -71,7 +74,7 @@ fn ledger_lines(
     interval: u64,
     start: u64,
 ) -> Pen
-    requires { ⌜ Printable interval (now ledger) (now errors) ⌝ }
+    requires { ⌜ Passed interval (now ledger) (now errors) ⌝ }
     ensures { λ r. ⌜ Wrote (now (page .entry)) (pen .at) (ledgerText interval start (now (ledger .entry)) (now (errors .entry))) (now (page .exit)) (r .at) ⌝ }
 {
     let mut at = pen;
@@ -94,13 +97,14 @@ fn project_line(pen: Pen, page: &mut [u8], projection: Projection) -> Pen
     pen.line(page, b"project", &numbers)
 }
 
+// The verdict's word as the last of a line.
 fn verdict_word(pen: Pen, page: &mut [u8], verdict: Verdict) -> Pen
-    ensures { λ r. ⌜ Wrote (now (page .entry)) (pen .at) (verdictWord verdict) (now (page .exit)) (r .at) ⌝ }
+    ensures { λ r. ⌜ Wrote (now (page .entry)) (pen .at) (more (verdictWord verdict ∷ [])) (now (page .exit)) (r .at) ⌝ }
 {
     match verdict {
-        Verdict::Below => pen.text(page, b"below"),
-        Verdict::Inconclusive => pen.text(page, b"inconclusive"),
-        Verdict::Above => pen.text(page, b"above"),
+        Verdict::Below => pen.text(page, b" below\n"),
+        Verdict::Inconclusive => pen.text(page, b" inconclusive\n"),
+        Verdict::Above => pen.text(page, b" above\n"),
     }
 }
 
@@ -111,9 +115,7 @@ fn judge_line(pen: Pen, page: &mut [u8], judgement: Judgement) -> Pen
     let opened = pen.text(page, b"judge");
     let precise = opened.field(page, judgement.precision);
     let limited = precise.field(page, judgement.upper_limit);
-    let spaced = limited.byte(page, 32);
-    let ended = verdict_word(spaced, page, verdict);
-    ended.byte(page, 10)
+    verdict_word(limited, page, verdict)
 }
 
 // The one line of a refusal.
@@ -135,7 +137,7 @@ pub fn answers_text(
     ledger: &[u64],
     errors: &[u64],
 ) -> Pen
-    requires { ⌜ Printable (answers .figures .interval) (now ledger) (now errors) ⌝ }
+    requires { ⌜ Passed (answers .figures .interval) (now ledger) (now errors) ⌝ }
     ensures { λ r. ⌜ Wrote (now (page .entry)) (pen .at) (answersText (now (ledger .entry)) (now (errors .entry)) answers) (now (page .exit)) (r .at) ⌝ }
     ensures { λ r. ⌜ length (answersText (now (ledger .entry)) (now (errors .entry)) answers) ≤ 401 + 90 * length (now (ledger .entry)) ⌝ }
 {

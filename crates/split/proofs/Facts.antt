@@ -50,6 +50,9 @@ module _ (ledger : List ℕ) (n : ℕ) (some : n ≡ 0 → ⊥) where
       let draw : splitLines ledger n .draws ≡ 0 → ⊥ = λ z. omega arith in
       simp (ne-eqb _ _ draw)
 
+  pub settled-gives : Gives (10 ∷ []) (settledOf ledger (splitLines ledger n))
+  settled-gives = rw settled-is (by-test (Gives (10 ∷ [])) (ltb mostInterval (splitLines ledger n .interval)) (λ p. tt) (λ p. tt))
+
   facts-of : (beside : ℕ) (f : Figures) → Good ledger beside (sum ledger) → splitLines ledger n .interval ≤ mostInterval → f ≡ figuresOf ledger (splitLines ledger n) → SplitFacts ledger n beside f
   facts-of beside f g top same =
       let r : Rest = splitLines ledger n in
@@ -100,4 +103,4 @@ unfolding splitOf figuresFrom
 split-gives ledger n beside =
     gives-after splitNumbers (figuresFrom ledger n) (ledgerOf ledger beside) (gives-among ledgerNumbers splitNumbers tt (ledgerOf ledger beside) (ledger-gives ledger beside))
     (λ total. by-test (Gives splitNumbers) (eqb n 0) (λ z. tt)
-    (λ z. rw (settled-is ledger n (eqb-false n 0 z)) (by-test (Gives splitNumbers) (ltb mostInterval (splitLines ledger n .interval)) (λ p. tt) (λ p. tt))))
+    (λ z. gives-among (10 ∷ []) splitNumbers tt (settledOf ledger (splitLines ledger n)) (settled-gives ledger n (eqb-false n 0 z))))

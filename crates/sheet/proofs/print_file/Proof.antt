@@ -1,9 +1,7 @@
 -- `sheet::print_file` meets its contract: the line of refusal 17, or the text of the content that was read. Assumes nothing.
 use native.Mathlib.Omega.{arith}
-use mathlib.Core.Path.{ap}
-use lib.ListN.{length}
-use Rattle.pen.proofs.Writing.{as-text}
-use Rattle.sheet.proofs.Reading.{desk-rooms, file-refused, AtRead, words-long, values-long, errors-long, words-few, lines-few, file-read}
+use Rattle.sheet.proofs.Reading.{desk-rooms, file-refused, AtRead, words-long, values-long, errors-long, words-fit, values-fit, errors-fit, file-read, text-room}
+use Rattle.sheet.proofs.Paging.{as-bounded}
 use borrow.Author.Needs.{needs}
 use Rattle.sheet.proofs.print_file.Statement.{statement}
 use Rattle.sheet.proofs.print_file.Tie as tie
@@ -35,19 +33,19 @@ enum-known-contents : tie.Need-enum-known-contents
 enum-known-contents c = search needs
 
 array-share-prefix-words : tie.Need-array-share-prefix-words
-array-share-prefix-words c = omega (arith, words-few (at-read (c .before .before)))
+array-share-prefix-words c = words-fit (at-read (c .before .before))
 
 slice-aggregate-print-content : tie.Need-slice-aggregate-print-content
 slice-aggregate-print-content c = words-long (at-read (c .before .before .before))
 
 array-share-prefix-values : tie.Need-array-share-prefix-values
-array-share-prefix-values c = omega (arith, lines-few (at-read (c .before .before .before)))
+array-share-prefix-values c = values-fit (at-read (c .before .before .before))
 
 slice-aggregate-print-content-2 : tie.Need-slice-aggregate-print-content-2
 slice-aggregate-print-content-2 c = values-long (at-read (c .before .before .before .before))
 
 array-share-prefix-errors : tie.Need-array-share-prefix-errors
-array-share-prefix-errors c = omega (arith, lines-few (at-read (c .before .before .before .before)))
+array-share-prefix-errors c = errors-fit (at-read (c .before .before .before .before))
 
 slice-aggregate-print-content-3 : tie.Need-slice-aggregate-print-content-3
 slice-aggregate-print-content-3 c = errors-long (at-read (c .before .before .before .before .before))
@@ -62,9 +60,7 @@ returns : tie.Need-returns
 returns c =
     let why = c .before .before .before .before .before in
     let at = why .before .before .before .before .before in
-    let same = file-refused desk-rooms (at .read .ensures) _ (why .why .given .1) in
-    let line = c .before .before .refused-line .ensures in
-    (as-text same (line .0), omega (arith, ap length same, line .1))
+    as-bounded (file-refused desk-rooms (at .read .ensures) _ (why .why .given .1)) (omega arith) (c .before .before .refused-line .ensures)
 
 same-length-2 : tie.Need-same-length-2
 same-length-2 c = search needs
@@ -72,9 +68,7 @@ same-length-2 c = search needs
 returns-2 : tie.Need-returns-2
 returns-2 c =
     let at = at-read (c .before .before .before .before .before .before .before .before) in
-    let same = file-read at in
-    let text = c .before .before .print-content .ensures in
-    (as-text same (text .0), omega (arith, ap length same, text .1, values-long at, lines-few at))
+    as-bounded (file-read at) (text-room at) (c .before .before .print-content .ensures)
 
 pub print-file-spec : {M : Type 1} → statement M
 print-file-spec =

@@ -16,29 +16,18 @@ field-requires c κs = search needs
 field-requires-2 : tie.Need-field-requires-2
 field-requires-2 c κs = search needs
 
-byte-requires : tie.Need-byte-requires
-byte-requires c κs = search needs
-
 verdict-word-requires : tie.Need-verdict-word-requires
 verdict-word-requires c κs = search needs
-
-byte-requires-2 : tie.Need-byte-requires-2
-byte-requires-2 c κs = search needs
 
 same-length : tie.Need-same-length
 same-length c = search needs
 
 returns : tie.Need-returns
 returns c =
-    let spoken = c .before .before .before .before .before .before in
-    let limited = spoken .before .before .before .before .before .before .before .before in
+    let spoken = c .before .before in
+    let limited = spoken .before .before .before .before in
     let opened = limited .before .before .before .before .before .before .before .before in
-    opened .text .ensures
-    ⨾ limited .before .before .before .before .field .ensures
-    ⨾ limited .field2 .ensures
-    ⨾ spoken .before .before .before .before .byte .ensures
-    ⨾ spoken .verdict-word .ensures
-    ⨾ c .before .before .byte2 .ensures
+    opened .text .ensures ⨾ limited .before .before .before .before .field .ensures ⨾ limited .field2 .ensures ⨾ spoken .verdict-word .ensures
 
 pub judge-line-spec : {M : Type 1} → statement M
 judge-line-spec =
@@ -48,8 +37,6 @@ judge-line-spec =
     text-requires
     field-requires
     field-requires-2
-    byte-requires
     verdict-word-requires
-    byte-requires-2
     same-length
     returns)

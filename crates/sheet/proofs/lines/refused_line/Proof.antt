@@ -1,7 +1,6 @@
 -- `sheet::lines::refused_line` meets its contract. Assumes nothing.
-use Rattle.terms.specs.Refusals.{number, place}
 use Rattle.pen.proofs.Lengths.{Small}
-use Rattle.sheet.proofs.Room.{refused-short}
+use Rattle.sheet.proofs.Room.{refused-written}
 use borrow.Author.Needs.{needs}
 use Rattle.sheet.proofs.lines.refused_line.Statement.{statement}
 use Rattle.sheet.proofs.lines.refused_line.Tie as tie
@@ -33,10 +32,8 @@ small-place c = search needs
 returns : tie.Need-returns
 returns c =
     let placed = c .before .before .before .before .before .before in
-    let numbered = placed .before in (
-      rw (placed .place-of .ensures, numbered .number-of .ensures) at (c .before .before .line .ensures),
-      refused-short (number (numbered .before .before .args .why)) (place (numbered .before .before .args .why)) (rw (numbered .number-of .ensures) at (small-number numbered)) (rw (placed .place-of .ensures) at (small-place placed)),
-    )
+    let numbered = placed .before in
+    refused-written (numbered .before .before .args .why) (numbered .number-of .ensures) (placed .place-of .ensures) (small-number numbered) (small-place placed) (c .before .before .line .ensures)
 
 pub refused-line-spec : {M : Type 1} → statement M
 refused-line-spec =

@@ -1,8 +1,10 @@
 -- The steps in the desk program's order, from the content of a working file: each after the refusals of those before it.
 -- These are definitions: nothing is assumed.
-use Prim.Native.Nat.{ℕ}
+use Prim.Native.Nat.{ℕ, _≤_, _<_}
+use mathlib.Core.Path.{_≡_}
 use mathlib.Core.List.{List}
-use lib.ListN.{length}
+use lib.ListN.{length, getD}
+use Rattle.terms.specs.Limits.{mostInterval}
 use Rattle.terms.specs.Outcome.{Outcome, accepted, refusedBy, after}
 use Rattle.factors.specs.Levels.{levelOf}
 use Rattle.ledger.specs.Ledger.{ledgerOf}
@@ -14,10 +16,10 @@ use Rattle.start.specs.Start.{startOf}
 use Rattle.judge.specs.declared.Judgement.{Judgement}
 use Rattle.judge.specs.Judge.{judgeOf}
 use Rattle.workfile.specs.declared.Plan.{Plan}
-use Rattle.sheet.specs.declared.Planned.{Planned}
-use Rattle.sheet.specs.declared.Answers.{Answers}
-use Rattle.sheet.specs.declared.StepsAnswer.{StepsAnswer}
-use Rattle.sheet.specs.declared.StepsAnswer.the-variants.{Answered, Refused}
+use Rattle.steps.specs.declared.Planned.{Planned}
+use Rattle.steps.specs.declared.Answers.{Answers}
+use Rattle.steps.specs.declared.StepsAnswer.{StepsAnswer}
+use Rattle.steps.specs.declared.StepsAnswer.the-variants.{Answered, Refused}
 
 -- what the steps' answer says: every figure of the sheet, or a refusal's number and place
 abbrev pub stepsSays : StepsAnswer → Outcome Answers
@@ -57,3 +59,9 @@ totalledFrom plan words ledger errors = after (sizedFrom plan words ledger error
 -- the level: 1
 unfoldable pub stepsOf : Plan → List ℕ → List ℕ → List ℕ → Outcome Answers
 stepsOf plan words ledger errors = after (λ level. totalledFrom plan words ledger errors) (levelOf (plan .level))
+
+-- what steps that accept have shown of the interval and the lines
+pub record Passed (J : ℕ) (ledger errors : List ℕ) : Type 0 where
+  pub narrow : J ≤ mostInterval
+  pub same : length errors ≡ length ledger
+  pub within : (item : ℕ) → item < length ledger → getD errors item 0 ≤ getD ledger item 0

@@ -1,18 +1,39 @@
 // The steps in the desk program's order, each from the answers of those before it.
-use crate::Answers;
-use crate::Planned;
-use crate::StepsAnswer;
 use factors::LevelAnswer;
 use judge::JudgeAnswer;
+use judge::Judgement;
 use ledger::LedgerAnswer;
 use size::SizeAnswer;
 use split::Figures;
 use split::SplitAnswer;
 use start::Chosen;
 use start::StartAnswer;
+use terms::Refusal;
 use workfile::Plan;
 ghost use mathlib.Core.Path.{_≡_};
-ghost use Rattle.sheet.specs.Steps.{stepsSays, judgedFrom, startedFrom, splitFrom, sizedFrom, totalledFrom, stepsOf};
+ghost use Rattle.steps.specs.Steps.{stepsSays, judgedFrom, startedFrom, splitFrom, sizedFrom, totalledFrom, stepsOf};
+
+// The plan, with the ledger's total and the number of draws.
+pub struct Planned {
+    pub level: u8,
+    pub total: u64,
+    pub te: u64,
+    pub ae: u64,
+    pub draws: u64,
+}
+
+// What the steps have answered: every figure of the sheet but the lines.
+pub struct Answers {
+    pub planned: Planned,
+    pub figures: Figures,
+    pub chosen: Chosen,
+    pub judgement: Judgement,
+}
+
+pub enum StepsAnswer {
+    Answered(Answers),
+    Refused(Refusal),
+}
 
 // The judgement: 14 and 15 line by line, then 16.
 fn judged(
@@ -98,7 +119,7 @@ fn totalled(plan: Plan, words: &[u64], ledger: &[u64], errors: &[u64]) -> StepsA
 }
 
 // All steps, from the level on: 1.
-pub fn answers(plan: Plan, words: &[u64], ledger: &[u64], errors: &[u64]) -> StepsAnswer
+pub fn steps(plan: Plan, words: &[u64], ledger: &[u64], errors: &[u64]) -> StepsAnswer
     ensures { λ r. ⌜ stepsSays r ≡ stepsOf plan (now (words .entry)) (now (ledger .entry)) (now (errors .entry)) ⌝ }
 {
     match factors::level_of(plan.level) {

@@ -1,10 +1,10 @@
--- `sheet::steps::totalled` meets its contract: the ledger's refusal, or what follows from its total. Assumes nothing.
+-- `steps::totalled` meets its contract: the ledger's refusal, or what follows from its total. Assumes nothing.
 use mathlib.Core.Path.{sym, ap, _∙_}
 use Rattle.ledger.specs.Ledger.{ledgerSays}
-use Rattle.sheet.proofs.Following.{from-ledger}
+use Rattle.steps.proofs.Following.{from-ledger}
 use borrow.Author.Needs.{needs}
-use Rattle.sheet.proofs.steps.totalled.Statement.{statement}
-use Rattle.sheet.proofs.steps.totalled.Tie as tie
+use Rattle.steps.proofs.totalled.Statement.{statement}
+use Rattle.steps.proofs.totalled.Tie as tie
 
 judge-ledger-requires : tie.Need-judge-ledger-requires
 judge-ledger-requires c κs = search needs

@@ -1,10 +1,10 @@
--- `sheet::steps::started` meets its contract: the start's refusal, or what follows from the start. Assumes nothing.
+-- `steps::started` meets its contract: the start's refusal, or what follows from the start. Assumes nothing.
 use mathlib.Core.Path.{sym, ap, _∙_}
 use Rattle.start.specs.Start.{startSays}
-use Rattle.sheet.proofs.Following.{from-start}
+use Rattle.steps.proofs.Following.{from-start}
 use borrow.Author.Needs.{needs}
-use Rattle.sheet.proofs.steps.started.Statement.{statement}
-use Rattle.sheet.proofs.steps.started.Tie as tie
+use Rattle.steps.proofs.started.Statement.{statement}
+use Rattle.steps.proofs.started.Tie as tie
 
 start-requires : tie.Need-start-requires
 start-requires c κs = search needs

@@ -15,8 +15,8 @@ use Rattle.start.specs.Start.{startOf}
 use Rattle.judge.specs.declared.Judgement.{Judgement}
 use Rattle.judge.specs.Judge.{judgeOf}
 use Rattle.workfile.specs.declared.Plan.{Plan}
-use Rattle.sheet.specs.declared.Planned.{Planned}
-use Rattle.sheet.specs.Steps.{plannedWith, answersWith, judgedFrom, startedFrom, splitFrom, sizedFrom, totalledFrom, stepsOf}
+use Rattle.steps.specs.declared.Planned.{Planned}
+use Rattle.steps.specs.Steps.{plannedWith, answersWith, judgedFrom, startedFrom, splitFrom, sizedFrom, totalledFrom, stepsOf}
 
 module _ (p : Planned) (words ledger errors : List ℕ) where
   pub from-judge : (f : Figures) (s : Chosen) {o : Outcome Judgement} → o ≡ judgeOf (p .level) ledger (p .draws) (s .start) errors (p .te) →

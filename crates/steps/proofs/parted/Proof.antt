@@ -1,10 +1,10 @@
--- `sheet::steps::parted` meets its contract: the split's refusal, or what follows from its figures. Assumes nothing.
+-- `steps::parted` meets its contract: the split's refusal, or what follows from its figures. Assumes nothing.
 use mathlib.Core.Path.{sym, ap, _∙_}
 use Rattle.split.specs.Split.{splitSays}
-use Rattle.sheet.proofs.Following.{from-split}
+use Rattle.steps.proofs.Following.{from-split}
 use borrow.Author.Needs.{needs}
-use Rattle.sheet.proofs.steps.parted.Statement.{statement}
-use Rattle.sheet.proofs.steps.parted.Tie as tie
+use Rattle.steps.proofs.parted.Statement.{statement}
+use Rattle.steps.proofs.parted.Tie as tie
 
 split-figures-requires : tie.Need-split-figures-requires
 split-figures-requires c κs = search needs

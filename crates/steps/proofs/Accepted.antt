@@ -26,10 +26,9 @@ use Rattle.project.proofs.Passing.{checked-same}
 use Rattle.judge.specs.declared.Judgement.{Judgement}
 use Rattle.judge.specs.Judge.{judgedLines, judgedAt, judgedFigures, outOfRange, judgedTotal, judgedLedger, judgeOf}
 use Rattle.workfile.specs.declared.Plan.{Plan}
-use Rattle.sheet.specs.declared.Planned.{Planned}
-use Rattle.sheet.specs.declared.Answers.{Answers}
-use Rattle.sheet.specs.Steps.{plannedWith, answersWith, judgedFrom, startedFrom, splitFrom, sizedFrom, totalledFrom, stepsOf}
-use Rattle.sheet.specs.Lines.{Printable}
+use Rattle.steps.specs.declared.Planned.{Planned}
+use Rattle.steps.specs.declared.Answers.{Answers}
+use Rattle.steps.specs.Steps.{plannedWith, answersWith, judgedFrom, startedFrom, splitFrom, sizedFrom, totalledFrom, stepsOf, Passed}
 
 -- no error exceeds its line's value
 abbrev Within : List ℕ → List ℕ → Type 0
@@ -70,9 +69,9 @@ judged-within percent ledger n start errors te j e =
     lines-within (f .interval) start ledger errors (g .0) (g .1)) (b .2)
 
 -- from the split on
-split-printable : (p : Planned) (words ledger errors : List ℕ) (a : Answers) → splitFrom p words ledger errors ≡ accepted a → Printable (a .figures .interval) ledger errors
+split-passed : (p : Planned) (words ledger errors : List ℕ) (a : Answers) → splitFrom p words ledger errors ≡ accepted a → Passed (a .figures .interval) ledger errors
 unfolding splitFrom startedFrom judgedFrom
-split-printable p words ledger errors a e =
+split-passed p words ledger errors a e =
     let b = after-accepted (startedFrom p words ledger errors) (splitOf ledger (p .draws) (length errors)) a e in
     let f : Figures = b .0 in
     let facts = split-facts ledger (p .draws) (length errors) f (b .1) in
@@ -87,10 +86,10 @@ split-printable p words ledger errors a e =
     }
 
 -- from the level on
-pub printable : (plan : Plan) (words ledger errors : List ℕ) (a : Answers) → accepted a ≡ stepsOf plan words ledger errors → Printable (a .figures .interval) ledger errors
+pub steps-passed : (plan : Plan) (words ledger errors : List ℕ) (a : Answers) → accepted a ≡ stepsOf plan words ledger errors → Passed (a .figures .interval) ledger errors
 unfolding stepsOf totalledFrom sizedFrom
-printable plan words ledger errors a e =
+steps-passed plan words ledger errors a e =
     let b = after-accepted (λ level. totalledFrom plan words ledger errors) (levelOf (plan .level)) a (sym e) in
     let d = after-accepted (sizedFrom plan words ledger errors) (ledgerOf ledger (length errors)) a (b .2) in
     let g = after-accepted (λ draws. splitFrom (plannedWith plan (d .0) draws) words ledger errors) (sizeOf (plan .level) (d .0) (plan .te) (plan .ae)) a (d .2) in
-    split-printable (plannedWith plan (d .0) (g .0)) words ledger errors a (g .2)
+    split-passed (plannedWith plan (d .0) (g .0)) words ledger errors a (g .2)

@@ -1,10 +1,10 @@
--- `sheet::steps::sized` meets its contract: the size's refusal, or what follows from the draws. Assumes nothing.
+-- `steps::sized` meets its contract: the size's refusal, or what follows from the draws. Assumes nothing.
 use mathlib.Core.Path.{sym, ap, _∙_}
 use Rattle.size.specs.Size.{sizeSays}
-use Rattle.sheet.proofs.Following.{from-size}
+use Rattle.steps.proofs.Following.{from-size}
 use borrow.Author.Needs.{needs}
-use Rattle.sheet.proofs.steps.sized.Statement.{statement}
-use Rattle.sheet.proofs.steps.sized.Tie as tie
+use Rattle.steps.proofs.sized.Statement.{statement}
+use Rattle.steps.proofs.sized.Tie as tie
 
 size-requires : tie.Need-size-requires
 size-requires c κs = search needs

@@ -1,11 +1,11 @@
--- `sheet::steps::judged` meets its contract: the judgement's refusal, or all answers. Assumes nothing.
+-- `steps::judged` meets its contract: the judgement's refusal, or all answers. Assumes nothing.
 use mathlib.Core.Path.{sym, ap, _∙_}
 use mathlib.Core.List.{[]}
 use Rattle.judge.specs.Judge.{judgeSays}
-use Rattle.sheet.proofs.Following.{from-judge}
+use Rattle.steps.proofs.Following.{from-judge}
 use borrow.Author.Needs.{needs}
-use Rattle.sheet.proofs.steps.judged.Statement.{statement}
-use Rattle.sheet.proofs.steps.judged.Tie as tie
+use Rattle.steps.proofs.judged.Statement.{statement}
+use Rattle.steps.proofs.judged.Tie as tie
 
 judge-requires : tie.Need-judge-requires
 judge-requires c κs = search needs

@@ -1,0 +1,121 @@
+-- The contract leaves no freedom: any two answers that meet it agree. And which refusals the steps give on the content of a legal file.
+-- Assumes nothing.
+use Prim.Native.Nat.{ℕ, _≤_, _<_}
+use native.Mathlib.Omega.{arith}
+use mathlib.Core.Path.{_≡_, refl, sym, ap, subst, _∙_}
+use mathlib.Core.List.{List, [], _∷_}
+use mathlib.Core.Logic.{⊎-elim}
+use borrow.Author.Tests.{eqb-true, eqb-false}
+use lib.Dec.{eqb}
+use lib.ListN.{length}
+use Rattle.terms.specs.Outcome.{Outcome, accepted, refused, after}
+use Rattle.terms.proofs.Outcomes.{never, refused-once, Gives, gives-after, gives-among}
+use Rattle.terms.proofs.Tests.{by-test, le-or-lt}
+use Rattle.factors.specs.Levels.{levelOf}
+use Rattle.factors.proofs.Percents.{level-gives}
+use Rattle.ledger.specs.Ledger.{ledgerOf}
+use Rattle.ledger.proofs.Laws.{valueNumbers, values-give}
+use Rattle.size.specs.Size.{sizeOf}
+use Rattle.size.proofs.Laws.{at-least-one, sizeNumbers, size-gives}
+use Rattle.split.specs.declared.Figures.{Figures}
+use Rattle.split.specs.Rounds.{splitLines}
+use Rattle.split.specs.Split.{settledOf, figuresFrom, splitOf}
+use Rattle.split.proofs.Facts.{settled-gives}
+use Rattle.start.specs.declared.Chosen.{Chosen}
+use Rattle.start.specs.Start.{startOf}
+use Rattle.start.proofs.Laws.{within, no-interval, startNumbers, start-gives}
+use Rattle.draw.specs.Draw.{figuresFor}
+use Rattle.draw.proofs.Answer.{from-split, start-none}
+use Rattle.draw.proofs.Laws.{start-accepted}
+use Rattle.judge.specs.Judge.{judgedAt, judgedFigures, outOfRange, judgedTotal, judgedLedger, judgeOf}
+use Rattle.judge.proofs.Laws.{lastNumbers, lines-give}
+use Rattle.workfile.specs.declared.Plan.{Plan}
+use Rattle.workfile.specs.Content.{Content, mostFileLines}
+use Rattle.workfile.specs.Decode.{decode}
+use Rattle.workfile.proofs.OneFile.{read-counts}
+use Rattle.steps.specs.declared.Planned.{Planned}
+use Rattle.steps.specs.declared.StepsAnswer.{StepsAnswer}
+use Rattle.steps.specs.declared.StepsAnswer.the-variants.{Answered, Refused}
+use Rattle.steps.specs.Steps.{stepsSays, plannedWith, answersWith, judgedFrom, startedFrom, splitFrom, sizedFrom, totalledFrom, stepsOf}
+
+-- an outcome is said by one answer
+one-answer : (r q : StepsAnswer) → stepsSays r ≡ stepsSays q → r ≡ q
+one-answer (Answered a) (Answered b) e = cc
+one-answer (Answered a) (Refused y) e = never (sym e)
+one-answer (Refused x) (Answered b) e = never e
+one-answer (Refused x) (Refused y) e = ap Refused (refused-once x y e)
+
+pub steps-once : (plan : Plan) (words ledger errors : List ℕ) {r₁ r₂ : StepsAnswer} → stepsSays r₁ ≡ stepsOf plan words ledger errors →
+    stepsSays r₂ ≡ stepsOf plan words ledger errors → r₁ ≡ r₂
+steps-once plan words ledger errors {r₁} {r₂} p q = one-answer r₁ r₂ (p ∙ sym q)
+
+-- a step that starts with another gives what either gives, the second from what the first has accepted
+gives-then : {A B : Type 0} (numbers : List ℕ) (next : A → Outcome B) (o : Outcome A) → Gives numbers o → ((a : A) → o ≡ accepted a → Gives numbers (next a)) →
+    Gives numbers (after next o)
+gives-then numbers next (accepted a) g h = h a refl
+gives-then numbers next (refused n p) g h = g
+
+-- the refusals that the steps give on a legal file: 2, 8, 9, 11 and 13 are not among them
+abbrev pub stepsNumbers : List ℕ
+stepsNumbers = 1 ∷ 3 ∷ 4 ∷ 5 ∷ 6 ∷ 7 ∷ 10 ∷ 12 ∷ 14 ∷ 15 ∷ 16 ∷ []
+
+level-known : (percent : ℕ) → Gives stepsNumbers (levelOf percent)
+level-known percent = gives-among (1 ∷ []) stepsNumbers tt (levelOf percent) (level-gives percent)
+
+-- the start that was chosen is one of the split's figures, so 11 is not given
+start-fits : (words ledger : List ℕ) (n beside : ℕ) (f : Figures) (s : Chosen) → splitOf ledger n beside ≡ accepted f → startOf (f .interval) words ≡ accepted s →
+    figuresFor ledger n (s .start) beside ≡ accepted f
+start-fits words ledger n beside f s split started =
+    ⊎-elim
+    (λ (h : f .interval ≤ 0).
+    let none : f .interval ≡ 0 = omega arith in
+    let first : s .start ≡ 0 = no-interval words s (sym (ap (λ (j : ℕ). startOf j words) none) ∙ started) in
+    sym (start-none (s .start) f (omega arith) (omega arith) ∙ from-split ledger n (s .start) beside (sym split)))
+    (λ (h : 0 < f .interval). start-accepted ledger n (s .start) beside f split (within (f .interval) words s (omega arith) started))
+    (le-or-lt (f .interval) 0)
+
+module _ (ledger errors : List ℕ) (few : length ledger ≤ mostFileLines) (same : length errors ≡ length ledger) where
+  ledger-known : Gives stepsNumbers (ledgerOf ledger (length errors))
+  ledger-known = gives-among valueNumbers stepsNumbers tt (ledgerOf ledger (length errors)) (values-give ledger (length errors) (omega arith) same)
+
+  split-known : (n : ℕ) → 1 ≤ n → Gives stepsNumbers (splitOf ledger n (length errors))
+  unfolding splitOf figuresFrom
+  split-known n some =
+      gives-after stepsNumbers (figuresFrom ledger n) (ledgerOf ledger (length errors)) ledger-known
+      (λ total. by-test (Gives stepsNumbers) (eqb n 0) (λ z. let none = eqb-true n 0 z in absurd (omega arith))
+      (λ z. gives-among (10 ∷ []) stepsNumbers tt (settledOf ledger (splitLines ledger n)) (settled-gives ledger n (eqb-false n 0 z))))
+
+  judged-gives : (p : Planned) (f : Figures) (s : Chosen) → figuresFor ledger (p .draws) (s .start) (length errors) ≡ accepted f →
+      Gives stepsNumbers (judgedFrom p ledger errors f s)
+  unfolding judgedFrom judgeOf judgedLedger judgedFigures
+  judged-gives p f s fits =
+      gives-after stepsNumbers (λ judgement. accepted (answersWith p f s judgement)) (judgeOf (p .level) ledger (p .draws) (s .start) errors (p .te))
+      (gives-after stepsNumbers (judgedLedger ledger (p .draws) (s .start) errors (p .te)) (levelOf (p .level)) (level-known (p .level))
+      (λ level. gives-after stepsNumbers (judgedTotal level ledger (p .draws) (s .start) errors (p .te)) (ledgerOf ledger (length errors)) ledger-known
+      (λ total. by-test (Gives stepsNumbers) (outOfRange (p .te) total) (λ t. tt)
+      (λ t. gives-after stepsNumbers (λ figures. judgedAt level ledger (s .start) errors (p .te) (figures .interval))
+      (figuresFor ledger (p .draws) (s .start) (length errors)) (subst (λ (o : Outcome Figures). Gives stepsNumbers o) (sym fits) tt)
+      (λ figures. gives-among lastNumbers stepsNumbers tt (judgedAt level ledger (s .start) errors (p .te) (figures .interval))
+      (lines-give level ledger (p .draws) (s .start) errors (p .te) (figures .interval)))))))
+      (λ judgement. tt)
+
+  split-gives : (p : Planned) (words : List ℕ) → 1 ≤ p .draws → Gives stepsNumbers (splitFrom p words ledger errors)
+  unfolding splitFrom startedFrom
+  split-gives p words some =
+      gives-then stepsNumbers (startedFrom p words ledger errors) (splitOf ledger (p .draws) (length errors)) (split-known (p .draws) some)
+      (λ f split. gives-then stepsNumbers (judgedFrom p ledger errors f) (startOf (f .interval) words)
+      (gives-among startNumbers stepsNumbers tt (startOf (f .interval) words) (start-gives (f .interval) words))
+      (λ s started. judged-gives p f s (start-fits words ledger (p .draws) (length errors) f s split started)))
+
+  pub steps-give : (plan : Plan) (words : List ℕ) → Gives stepsNumbers (stepsOf plan words ledger errors)
+  unfolding stepsOf totalledFrom sizedFrom
+  steps-give plan words =
+      gives-after stepsNumbers (λ level. totalledFrom plan words ledger errors) (levelOf (plan .level)) (level-known (plan .level))
+      (λ level. gives-after stepsNumbers (sizedFrom plan words ledger errors) (ledgerOf ledger (length errors)) ledger-known
+      (λ total. gives-then stepsNumbers (λ draws. splitFrom (plannedWith plan total draws) words ledger errors) (sizeOf (plan .level) total (plan .te) (plan .ae))
+      (gives-among sizeNumbers stepsNumbers tt (sizeOf (plan .level) total (plan .te) (plan .ae)) (size-gives (plan .level) total (plan .te) (plan .ae)))
+      (λ draws sized. split-gives (plannedWith plan total draws) words (at-least-one (plan .level) total (plan .te) (plan .ae) draws sized))))
+
+-- on the content of a legal file
+pub file-gives : (file : List ℕ) (c : Content) → decode file ≡ accepted c → Gives stepsNumbers (stepsOf (c .plan) (c .words) (c .values) (c .errors))
+file-gives file c e = let counts = read-counts file c e in steps-give (c .values) (c .errors) (counts .few-lines) (counts .same) (c .plan) (c .words)

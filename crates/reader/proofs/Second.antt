@@ -22,10 +22,12 @@ use Rattle.workfile.proofs.Rules.{rule}
 use Rattle.workfile.proofs.Lists.{length-pad}
 use Rattle.workfile.proofs.Growing.{SoFar, at-first, one-more, plan-grow}
 use Rattle.workfile.proofs.OneFile.{plan-there}
-use Rattle.reader.specs.Steps.{recordAt, judged, putWords, putValues, putErrors, Ready, Put, Stepped, contentsWith, IsLegal, Stored}
-use Rattle.reader.specs.declared.Judged.{Judged}
-use Rattle.reader.specs.declared.Judged.the-variants.{Next, Last, Bad}
-use Rattle.reader.proofs.Passing.{At, Stands, at-start, onward-at, longer, Ended, ended, at-end, stopped-at, stopped}
+use Rattle.records.specs.Judging.{recordAt, judged}
+use Rattle.reader.specs.Steps.{putWords, putValues, putErrors, Ready, Put, Stepped, contentsWith, IsLegal, Stored}
+use Rattle.records.specs.declared.Judged.{Judged}
+use Rattle.records.specs.declared.Judged.the-variants.{Next, Last, Bad}
+use Rattle.records.proofs.Judging.{Ended, ended}
+use Rattle.reader.proofs.Passing.{At, Stands, at-start, onward-at, longer, at-end, stopped-at, stopped}
 use Rattle.reader.proofs.Buffers.{over-set, over-zeroed, length-over}
 
 module _ (c : Content) where

@@ -1,7 +1,5 @@
 // The second pass, over a file that keeps the rules: its content goes to the buffers.
-use crate::Judged;
-use crate::records;
-use crate::rules;
+use records::Judged;
 use workfile::Contents;
 use workfile::FileRecord;
 use workfile::Plan;
@@ -10,7 +8,8 @@ ghost use mathlib.Core.Path.{_≡_};
 ghost use Prim.Native.Nat.{_≤_};
 ghost use lib.ListN.{length};
 ghost use Rattle.workfile.specs.Promises.{Rooms};
-ghost use Rattle.reader.specs.Steps.{recordAt, contentsWith, zeroed, Ready, Put, Stepped, IsLegal, Stored};
+ghost use Rattle.records.specs.Judging.{recordAt};
+ghost use Rattle.reader.specs.Steps.{contentsWith, zeroed, Ready, Put, Stepped, IsLegal, Stored};
 
 // Zeros from `from` up to `to`.
 fn clear(buffer: &mut [u64], from: usize, to: usize)
@@ -65,7 +64,7 @@ fn step(
 {
     let found = records::record_at(file, at);
     put(tally, found, words, values, errors);
-    rules::judge(tally, found)
+    records::rules::judge(tally, found)
 }
 
 // The reader's answer: the plan, and the counts of words and lines.
@@ -88,8 +87,8 @@ pub fn store(file: &[u8], words: &mut [u64], values: &mut [u64], errors: &mut [u
 {
     let plan = Plan {
         level: file[1],
-        te: records::eight_bytes(file, 2),
-        ae: records::eight_bytes(file, 10),
+        te: records::numbers::eight_bytes(file, 2),
+        ae: records::numbers::eight_bytes(file, 10),
     };
     let mut at: usize = 18;
     let mut tally = Tally {

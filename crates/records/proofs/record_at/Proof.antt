@@ -1,9 +1,9 @@
--- `reader::records::record_at` meets its contract: the kind and the bytes left say which record stands there. Assumes nothing.
+-- `records::record_at` meets its contract: the kind and the bytes left say which record stands there. Assumes nothing.
 use borrow.Author.Needs.{needs}
 use native.Mathlib.Omega.{arith}
-use Rattle.reader.proofs.Finding.{no-nine, no-thirteen, no-kind, word-at, value-at, error-at, end-at}
-use Rattle.reader.proofs.records.record_at.Statement.{statement}
-use Rattle.reader.proofs.records.record_at.Tie as tie
+use Rattle.records.proofs.Finding.{no-nine, no-thirteen, no-kind, word-at, value-at, error-at, end-at}
+use Rattle.records.proofs.record_at.Statement.{statement}
+use Rattle.records.proofs.record_at.Tie as tie
 
 sub-left : tie.Need-sub-left
 sub-left c = search needs

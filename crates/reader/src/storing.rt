@@ -2,11 +2,11 @@
 use records::Judged;
 use workfile::Contents;
 use workfile::FileRecord;
-use workfile::Plan;
 use workfile::Tally;
 ghost use mathlib.Core.Path.{_≡_};
 ghost use Prim.Native.Nat.{_≤_};
 ghost use lib.ListN.{length};
+ghost use Rattle.workfile.specs.Decode.{planOf};
 ghost use Rattle.workfile.specs.Promises.{Rooms};
 ghost use Rattle.records.specs.Judging.{recordAt};
 ghost use Rattle.reader.specs.Steps.{contentsWith, zeroed, Ready, Put, Stepped, IsLegal, Stored};
@@ -67,14 +67,15 @@ fn step(
     records::rules::judge(tally, found)
 }
 
-// The reader's answer: the plan, and the counts of words and lines.
-fn contents(plan: Plan, tally: Tally) -> Contents
-    ensures { λ r. ⌜ r ≡ contentsWith plan tally ⌝ }
+// The reader's answer: the plan, which stands first, and the counts of words and lines.
+fn contents(file: &[u8], tally: Tally) -> Contents
+    requires { ⌜ 18 ≤ length (now file) ⌝ }
+    ensures { λ r. ⌜ r ≡ contentsWith (planOf (now (file .entry))) tally ⌝ }
 {
     Contents {
-        level: plan.level,
-        te: plan.te,
-        ae: plan.ae,
+        level: file[1],
+        te: records::numbers::eight_bytes(file, 2),
+        ae: records::numbers::eight_bytes(file, 10),
         words: tally.words as u64,
         lines: tally.lines as u64,
     }
@@ -85,11 +86,6 @@ pub fn store(file: &[u8], words: &mut [u64], values: &mut [u64], errors: &mut [u
     requires { ⌜ IsLegal (now file) × Rooms (now words) (now values) (now errors) ⌝ }
     ensures { λ r. ⌜ Stored (now (file .entry)) (now (words .entry)) (now (values .entry)) (now (errors .entry)) r (now (words .exit)) (now (values .exit)) (now (errors .exit)) ⌝ }
 {
-    let plan = Plan {
-        level: file[1],
-        te: records::numbers::eight_bytes(file, 2),
-        ae: records::numbers::eight_bytes(file, 10),
-    };
     let mut at: usize = 18;
     let mut tally = Tally {
         words: 0,
@@ -104,12 +100,9 @@ pub fn store(file: &[u8], words: &mut [u64], values: &mut [u64], errors: &mut [u
                 tally = next;
                 at = at + size;
             }
-            Judged::Last => {
-                return contents(plan, tally);
-            }
-            // Not met in a legal file.
-            Judged::Bad => {
-                return contents(plan, tally);
+            // Z, for a legal file breaks no rule.
+            _ => {
+                return contents(file, tally);
             }
         }
     }

@@ -28,20 +28,23 @@ pub fn record_at(file: &[u8], at: usize) -> FileRecord
         return FileRecord::Nothing;
     }
     let kind = file[at];
+    let number = eight_bytes(file, at + 1);
     if kind == 0x57 {
-        return FileRecord::Word(eight_bytes(file, at + 1));
+        return FileRecord::Word(number);
     }
     if kind == 0x4C {
-        return FileRecord::Value(eight_bytes(file, at + 1));
+        return FileRecord::Value(number);
     }
     if left < 13 {
         return FileRecord::Nothing;
     }
+    let first = four_bytes(file, at + 1);
+    let second = eight_bytes(file, at + 5);
     if kind == 0x45 {
-        return FileRecord::ErrorOf(four_bytes(file, at + 1) as usize, eight_bytes(file, at + 5));
+        return FileRecord::ErrorOf(first as usize, second);
     }
     if kind == 0x5A {
-        return FileRecord::End(four_bytes(file, at + 1) as usize, eight_bytes(file, at + 5));
+        return FileRecord::End(first as usize, second);
     }
     FileRecord::Nothing
 }

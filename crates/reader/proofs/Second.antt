@@ -196,6 +196,3 @@ pub stepped : {f : List ℕ} {at : ℕ} {t : Tally} {r : FileRecord} {j : Judged
     → r ≡ recordAt f at → j ≡ judged t r → Put t r w v e w′ v′ e′ → Stepped f at t j w v e w′ v′ e′
 stepped {f} {at} {t} {r} {j} {w} {v} {e} {w′} {v′} {e′} is judgement put =
     record { judgement = judgement ∙ ap (judged t) is; stored = subst (λ (x : FileRecord). Put t x w v e w′ v′ e′) is put }
-
-pub ready-at : (f : List ℕ) (at : ℕ) {t : Tally} {r : FileRecord} {w v e : List ℕ} → r ≡ recordAt f at → Ready t (recordAt f at) w v e → Ready t r w v e
-ready-at f at {t} {r} {w} {v} {e} is q = subst (λ (x : FileRecord). Ready t x w v e) (sym is) q

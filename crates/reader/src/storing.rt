@@ -9,7 +9,7 @@ ghost use lib.ListN.{length};
 ghost use Rattle.workfile.specs.Decode.{planOf};
 ghost use Rattle.workfile.specs.Promises.{Rooms};
 ghost use Rattle.records.specs.Judging.{recordAt};
-ghost use Rattle.reader.specs.Steps.{contentsWith, zeroed, Ready, Put, Stepped, IsLegal, Stored};
+ghost use Rattle.reader.specs.Steps.{contentsWith, zeroed, Ready, Stepped, IsLegal, Stored};
 
 // Zeros from `from` up to `to`.
 fn clear(buffer: &mut [u64], from: usize, to: usize)
@@ -23,11 +23,20 @@ fn clear(buffer: &mut [u64], from: usize, to: usize)
     }
 }
 
-// A record that the rules allow goes to its place; lines that E passes over, and those after the last E, get error 0.
-fn put(tally: Tally, found: FileRecord, words: &mut [u64], values: &mut [u64], errors: &mut [u64])
-    requires { ⌜ Ready tally found (now words) (now values) (now errors) ⌝ }
-    ensures { λ x. ⌜ Put tally found (now (words .entry)) (now (values .entry)) (now (errors .entry)) (now (words .exit)) (now (values .exit)) (now (errors .exit)) ⌝ }
+// The record at a place of a legal file goes to its buffer; answers its judgement. Lines that E passes over, and those after the last E, get error 0.
+fn step(
+    file: &[u8],
+    at: usize,
+    tally: Tally,
+    words: &mut [u64],
+    values: &mut [u64],
+    errors: &mut [u64],
+) -> Judged
+    requires { ⌜ (at ≤ length (now file)) × Ready tally (recordAt (now file) at) (now words) (now values) (now errors) ⌝ }
+    ensures { λ r. ⌜ Stepped (now (file .entry)) at tally r (now (words .entry)) (now (values .entry)) (now (errors .entry)) (now (words .exit)) (now (values .exit)) (now (errors .exit)) ⌝ }
 {
+    let found = records::record_at(file, at);
+    let judged = records::rules::judge(tally, found);
     match found {
         FileRecord::Word(word) => {
             let i = tally.words;
@@ -48,23 +57,7 @@ fn put(tally: Tally, found: FileRecord, words: &mut [u64], values: &mut [u64], e
         }
         FileRecord::Nothing => {}
     }
-}
-
-// The record at a place of a legal file goes to the buffers; answers its judgement.
-fn step(
-    file: &[u8],
-    at: usize,
-    tally: Tally,
-    words: &mut [u64],
-    values: &mut [u64],
-    errors: &mut [u64],
-) -> Judged
-    requires { ⌜ (at ≤ length (now file)) × Ready tally (recordAt (now file) at) (now words) (now values) (now errors) ⌝ }
-    ensures { λ r. ⌜ Stepped (now (file .entry)) at tally r (now (words .entry)) (now (values .entry)) (now (errors .entry)) (now (words .exit)) (now (values .exit)) (now (errors .exit)) ⌝ }
-{
-    let found = records::record_at(file, at);
-    put(tally, found, words, values, errors);
-    records::rules::judge(tally, found)
+    judged
 }
 
 // The reader's answer: the plan, which stands first, and the counts of words and lines.

@@ -44,7 +44,9 @@ returns-5 : tie.Need-returns-5
 returns-5 c = error-at _ _ _ _ (c .if5 .taken) (c .before .before .before .if4 .left) (c .before .before .four-bytes .ensures .0) (c .before .eight-bytes2 .ensures)
 
 returns-6 : tie.Need-returns-6
-returns-6 c = end-at _ _ _ _ (c .if6 .taken) (c .before .before .before .before .if4 .left) (c .before .before .before .four-bytes .ensures .0) (c .before .before .eight-bytes2 .ensures)
+returns-6 c =
+    let a = c .before .before .before .before .before .before .before .before .before .before .before .args in
+    end-at (a .file .now) (a .at) _ _ (c .if6 .taken) (c .before .before .before .before .if4 .left) (c .before .before .before .four-bytes .ensures .0) (c .before .before .eight-bytes2 .ensures)
 
 returns-7 : tie.Need-returns-7
 returns-7 c = no-kind _ _ (c .before .before .before .before .before .before .if2 .left) (c .before .before .before .before .before .if3 .left) (c .before .if5 .left) (c .if6 .left)

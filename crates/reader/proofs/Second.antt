@@ -1,9 +1,11 @@
 -- The second pass over a legal file: the buffers hold what was read, laid over what they held. Assumes nothing.
 use Prim.Native.Nat.{ℕ, _+_, _-_, _≤_}
 use mathlib.Core.Path.{_≡_, refl, ap, ap₂, subst, sym, _∙_}
+use mathlib.Core.Logic.{_⊎_, inl, inr}
 use mathlib.Core.Bool.{Bool, true, false}
 use mathlib.Core.List.{List}
 use native.Mathlib.Omega.{arith}
+use denote.Enum.Declared.{tagOf}
 use lib.Dec.{eqb}
 use lib.ListN.{length, getD, set}
 use Rattle.terms.specs.Outcome.{accepted, refused, left}
@@ -22,10 +24,13 @@ use Rattle.workfile.proofs.Rules.{rule}
 use Rattle.workfile.proofs.Lists.{length-pad}
 use Rattle.workfile.proofs.Growing.{SoFar, at-first, one-more, plan-grow}
 use Rattle.workfile.proofs.OneFile.{plan-there}
-use Rattle.reader.specs.Steps.{recordAt, judged, putWords, putValues, putErrors, Ready, Put, Stepped, contentsWith, IsLegal, Stored}
-use Rattle.reader.specs.declared.Judged.{Judged}
-use Rattle.reader.specs.declared.Judged.the-variants.{Next, Last, Bad}
-use Rattle.reader.proofs.Passing.{At, Stands, at-start, onward-at, longer, Ended, ended, at-end, stopped-at, stopped}
+use Rattle.records.specs.Judging.{recordAt, judged}
+use Rattle.reader.specs.Steps.{putWords, putValues, putErrors, Ready, Put, Stepped, contentsWith, IsLegal, Stored}
+use Rattle.records.specs.declared.Judged.{Judged}
+use Rattle.records.proofs.Judged.{the-type}
+use Rattle.records.specs.declared.Judged.the-variants.{Next, Last, Bad}
+use Rattle.records.proofs.Judging.{Ended, ended}
+use Rattle.reader.proofs.Passing.{At, Stands, at-start, onward-at, longer, at-end, stopped-at, stopped}
 use Rattle.reader.proofs.Buffers.{over-set, over-zeroed, length-over}
 
 module _ (c : Content) where
@@ -90,23 +95,23 @@ lengths {c} {p} {ws} {vs} {es} m s =
     }
 
 -- where the second pass stands
-pub record Storing (f ws vs es : List ℕ) (p : Plan) (at : ℕ) (t : Tally) (w v e : List ℕ) : Type 0 where
+pub record Storing (f ws vs es : List ℕ) (at : ℕ) (t : Tally) (w v e : List ℕ) : Type 0 where
   pub read : Content
   pub tally : tallyOf read ≡ t
   pub place : At f at read
-  pub kept : Holds read p ws vs es w v e
+  pub kept : Holds read (planOf f) ws vs es w v e
 
 pub legal-plan : (f : List ℕ) → IsLegal f → (getD f 0 0 ≡ 0x50) × (18 ≤ length f)
 legal-plan f a = plan-there f (a .0) (a .1)
 
-pub sets-out : (f ws vs es : List ℕ) (p : Plan) → IsLegal f → planOf f ≡ p → Storing f ws vs es p 18 (record { words = 0; lines = 0; sum = 0; «next_line» = 0 }) ws vs es
-sets-out f ws vs es p a q =
+pub sets-out : (f ws vs es : List ℕ) → IsLegal f → Storing f ws vs es 18 (record { words = 0; lines = 0; sum = 0; «next_line» = 0 }) ws vs es
+sets-out f ws vs es a =
     let h = legal-plan f a in
     record {
       read = start (planOf f);
       tally = refl;
       place = at-start f (h .1) (h .0);
-      kept = record { so-far = at-first (planOf f); plan = q; words = refl; values = refl; errors = refl };
+      kept = record { so-far = at-first (planOf f); plan = refl; words = refl; values = refl; errors = refl };
     }
 
 -- Z was last, since the file is legal
@@ -118,7 +123,7 @@ counted-end : (c : Content) (n s : ℕ) → counted (grow c (End n s)) ≡ conte
 unfolding grow
 counted-end c n s = refl
 
-module _ {f ws vs es : List ℕ} {p : Plan} {at : ℕ} {t : Tally} {w v e : List ℕ} (s : Storing f ws vs es p at t w v e) (m : Rooms ws vs es) (a : IsLegal f) where
+module _ {f ws vs es : List ℕ} {at : ℕ} {t : Tally} {w v e : List ℕ} (s : Storing f ws vs es at t w v e) (m : Rooms ws vs es) (a : IsLegal f) where
   abbrev stands : Stands f at t
   stands = record { read = s .read; tally = s .tally; place = s .place }
 
@@ -145,15 +150,15 @@ module _ {f ws vs es : List ℕ} {p : Plan} {at : ℕ} {t : Tally} {w v e : List
       )
 
   module _ {j : Judged} {w′ v′ e′ : List ℕ} (q : Stepped f at t j w v e w′ v′ e′) where
-    held : (h : Rule (tallyOf (s .read)) (recordAt f at)) → Holds (grow (s .read) (recordAt f at)) p ws vs es w′ v′ e′
+    held : (h : Rule (tallyOf (s .read)) (recordAt f at)) → Holds (grow (s .read) (recordAt f at)) (planOf f) ws vs es w′ v′ e′
     held h =
         let put : Put (tallyOf (s .read)) (recordAt f at) w v e w′ v′ e′ = rw (← (s .tally)) at (q .stored) in
-        holds-grow (s .read) (recordAt f at) p ws vs es w v e w′ v′ e′ h m (s .kept) put
+        holds-grow (s .read) (recordAt f at) (planOf f) ws vs es w v e w′ v′ e′ h m (s .kept) put
 
     pub same-lengths : Lengths ws vs es w′ v′ e′
     same-lengths = lengths m (held (subst (λ (u : Tally). Rule u (recordAt f at)) (sym (s .tally)) (rule t (recordAt f at) allowed)))
 
-    pub goes-on : (u : Tally) (n : ℕ) → j ≡ Next u n → Storing f ws vs es p (at + n) u w′ v′ e′
+    pub goes-on : (u : Tally) (n : ℕ) → j ≡ Next u n → Storing f ws vs es (at + n) u w′ v′ e′
     goes-on u n is =
         let o = onward-at f at t u n (s .read) (s .tally) (s .place) (sym (q .judgement) ∙ is) in
         record { read = grow (s .read) (recordAt f at); tally = o .0; place = o .1 .0; kept = held (o .1 .1) }
@@ -161,15 +166,15 @@ module _ {f ws vs es : List ℕ} {p : Plan} {at : ℕ} {t : Tally} {w v e : List
     pub some-bytes : (u : Tally) (n : ℕ) → j ≡ Next u n → 9 ≤ n
     some-bytes u n is = longer f at t u n (sym (q .judgement) ∙ is)
 
-    pub arrives : (k : Contents) → j ≡ Last → k ≡ contentsWith p t → Stored f ws vs es k w′ v′ e′
-    arrives k is known =
+    pub arrives : (k : Contents) → (tagOf the-type j ≡ 1) ⊎ (tagOf the-type j ≡ 2) → k ≡ contentsWith (planOf f) t → Stored f ws vs es k w′ v′ e′
+    arrives k tag known =
         let c = s .read in
-        let x : Ended t (recordAt f at) = ended t (recordAt f at) (sym (q .judgement) ∙ is) in
+        let x : Ended t (recordAt f at) = ended t (recordAt f at) (sym (q .judgement) ∙ is-last j refl tag) in
         let g : fits (tallyOf c) (recordAt f at) ≡ true = ap (λ (y : Tally). fits y (recordAt f at)) (s .tally) ∙ x .fit in
         let y = at-end f at t stands x in
         let d = grow c (End (y .0) (y .1)) in
-        let h : Holds d p ws vs es w′ v′ e′ =
-        subst (λ (z : FileRecord). Holds (grow c z) p ws vs es w′ v′ e′) (y .2) (held (rule (tallyOf c) (recordAt f at) g)) in
+        let h : Holds d (planOf f) ws vs es w′ v′ e′ =
+        subst (λ (z : FileRecord). Holds (grow c z) (planOf f) ws vs es w′ v′ e′) (y .2) (held (rule (tallyOf c) (recordAt f at) g)) in
         let o : decode f ≡ accepted d = a .1 ∙ sym (closed-so (eqb (length f - at) 13) d (at + 13) (a .0) (sym (y .3) ∙ a .1)) in
         let n : k ≡ counted d = known ∙ ap₂ contentsWith (sym (s .kept .plan)) (sym (s .tally)) ∙ sym (counted-end c (y .0) (y .1)) in
         record {
@@ -178,15 +183,16 @@ module _ {f ws vs es : List ℕ} {p : Plan} {at : ℕ} {t : Tally} {w v e : List
           values = h .values ∙ sym (ap (left (λ c. over (c .values) vs) vs) o);
           errors = h .errors ∙ sym (ap (left (λ c. over (c .errors) es) es) o);
         }
-
-    pub never-bad : {A : Type 0} → j ≡ Bad → A
-    never-bad is = never (sym (stopped f at t stands (sym (q .judgement) ∙ is)) ∙ a .1)
+      where
+        -- in a legal file only Z is no step on
+        is-last : (x : Judged) → j ≡ x → (tagOf the-type x ≡ 1) ⊎ (tagOf the-type x ≡ 2) → j ≡ Last
+        is-last (Next u n) is (inl e) = absurd (omega arith)
+        is-last (Next u n) is (inr e) = absurd (omega arith)
+        is-last Last is tag = is
+        is-last Bad is tag = never (sym (stopped f at t stands (sym (q .judgement) ∙ is)) ∙ a .1)
 
 -- one step, from its parts
 pub stepped : {f : List ℕ} {at : ℕ} {t : Tally} {r : FileRecord} {j : Judged} {w v e w′ v′ e′ : List ℕ}
     → r ≡ recordAt f at → j ≡ judged t r → Put t r w v e w′ v′ e′ → Stepped f at t j w v e w′ v′ e′
 stepped {f} {at} {t} {r} {j} {w} {v} {e} {w′} {v′} {e′} is judgement put =
     record { judgement = judgement ∙ ap (judged t) is; stored = subst (λ (x : FileRecord). Put t x w v e w′ v′ e′) is put }
-
-pub ready-at : (f : List ℕ) (at : ℕ) {t : Tally} {r : FileRecord} {w v e : List ℕ} → r ≡ recordAt f at → Ready t (recordAt f at) w v e → Ready t r w v e
-ready-at f at {t} {r} {w} {v} {e} is q = subst (λ (x : FileRecord). Ready t x w v e) (sym is) q

@@ -1,5 +1,5 @@
--- The parts of the reader: a record at a place, a record judged from counts, and a record stored. These are definitions: nothing is assumed.
-use Prim.Native.Nat.{ℕ, _+_, _≤_}
+-- The parts of the reader: the room, the first pass, and a record stored. These are definitions: nothing is assumed.
+use Prim.Native.Nat.{ℕ, _≤_}
 use mathlib.Core.Path.{_≡_}
 use mathlib.Core.List.{List, _++_}
 use lib.Dec.{ltb}
@@ -7,7 +7,7 @@ use lib.ListN.{drop, take, set}
 use Rattle.terms.specs.Outcome.{Outcome, accepted, refused, left}
 use Rattle.terms.specs.Numbers.{pick}
 use Rattle.workfile.specs.Content.{Content, mostWords, mostFileLines}
-use Rattle.workfile.specs.Decode.{recordOf, size, isEnd, fits, padTo, decode}
+use Rattle.workfile.specs.Decode.{padTo, decode}
 use Rattle.workfile.specs.Rules.{Rule}
 use Rattle.workfile.specs.Promises.{over, countsOf, Rooms}
 use Rattle.workfile.specs.declared.Plan.{Plan}
@@ -15,29 +15,14 @@ use Rattle.workfile.specs.declared.Tally.{Tally}
 use Rattle.workfile.specs.declared.Contents.{Contents}
 use Rattle.workfile.specs.declared.FileRecord.{FileRecord}
 use Rattle.workfile.specs.declared.FileRecord.the-variants.{Word, Value, ErrorOf, End, Nothing}
-use Rattle.reader.specs.declared.Judged.{Judged}
-use Rattle.reader.specs.declared.Judged.the-variants.{Next, Last, Bad}
+use Rattle.records.specs.Judging.{recordAt, judged}
+use Rattle.records.specs.declared.Judged.{Judged}
 use Rattle.reader.specs.declared.Checked.{Checked}
 use Rattle.reader.specs.declared.Checked.the-variants.{Legal, Broken}
 
 -- the first number of entries that is not met, or 0
 unfoldable pub roomNeeded : ℕ → ℕ → ℕ → ℕ
 roomNeeded words values errors = pick (ltb words mostWords) mostWords (pick (ltb values mostFileLines) mostFileLines (pick (ltb errors mostFileLines) mostFileLines 0))
-
--- the record at a place of a file
-unfoldable pub recordAt : List ℕ → ℕ → FileRecord
-recordAt f at = recordOf (drop at f)
-
--- the counts with one record more
-abbrev pub tallied : Tally → FileRecord → Tally
-tallied t (Word w) = record { words = t .words + 1; lines = t .lines; sum = t .sum; «next_line» = t .«next_line» }
-tallied t (Value v) = record { words = t .words; lines = t .lines + 1; sum = t .sum + v; «next_line» = t .«next_line» }
-tallied t (ErrorOf l e) = record { words = t .words; lines = t .lines; sum = t .sum; «next_line» = l + 1 }
-tallied t (End n s) = t
-tallied t Nothing = t
-
-unfoldable pub judged : Tally → FileRecord → Judged
-judged t r = pick (fits t r) (pick (isEnd r) Last (Next (tallied t r) (size r))) Bad
 
 -- what the first pass answers
 abbrev pub checkOf : Outcome Content → Checked

@@ -1,8 +1,7 @@
 // The reader of the working file: it judges the whole file before it stores anything.
-mod records; // records.rt: the numbers and the record at a place of a file
-mod rules; // rules.rt: a record judged by the rules
 mod storing; // storing.rt: the content of a legal file goes to the buffers
 
+use records::Judged;
 use terms::Refusal;
 use workfile::ReadAnswer;
 use workfile::Tally;
@@ -10,13 +9,6 @@ ghost use mathlib.Core.Path.{_≡_};
 ghost use Rattle.workfile.specs.Decode.{decode};
 ghost use Rattle.workfile.specs.Promises.{ReadPromise};
 ghost use Rattle.reader.specs.Steps.{roomNeeded, checkOf};
-
-// A record judged by the rules: the counts with it and its length; Z; or a broken rule.
-pub enum Judged {
-    Next(Tally, usize),
-    Last,
-    Bad,
-}
 
 // A file judged by the rules: legal, or the offset of the first record that breaks one.
 pub enum Checked {
@@ -44,7 +36,7 @@ fn check(file: &[u8]) -> Checked
     };
     loop {
         let found = records::record_at(file, at);
-        let judged = rules::judge(tally, found);
+        let judged = records::rules::judge(tally, found);
         match judged {
             Judged::Next(next, size) => {
                 tally = next;

@@ -1,16 +1,15 @@
 // The second pass, over a file that keeps the rules: its content goes to the buffers.
-use crate::Judged;
-use crate::records;
-use crate::rules;
+use records::Judged;
 use workfile::Contents;
 use workfile::FileRecord;
-use workfile::Plan;
 use workfile::Tally;
 ghost use mathlib.Core.Path.{_≡_};
 ghost use Prim.Native.Nat.{_≤_};
 ghost use lib.ListN.{length};
+ghost use Rattle.workfile.specs.Decode.{planOf};
 ghost use Rattle.workfile.specs.Promises.{Rooms};
-ghost use Rattle.reader.specs.Steps.{recordAt, contentsWith, zeroed, Ready, Put, Stepped, IsLegal, Stored};
+ghost use Rattle.records.specs.Judging.{recordAt};
+ghost use Rattle.reader.specs.Steps.{contentsWith, zeroed, Ready, Stepped, IsLegal, Stored};
 
 // Zeros from `from` up to `to`.
 fn clear(buffer: &mut [u64], from: usize, to: usize)
@@ -24,11 +23,20 @@ fn clear(buffer: &mut [u64], from: usize, to: usize)
     }
 }
 
-// A record that the rules allow goes to its place; lines that E passes over, and those after the last E, get error 0.
-fn put(tally: Tally, found: FileRecord, words: &mut [u64], values: &mut [u64], errors: &mut [u64])
-    requires { ⌜ Ready tally found (now words) (now values) (now errors) ⌝ }
-    ensures { λ x. ⌜ Put tally found (now (words .entry)) (now (values .entry)) (now (errors .entry)) (now (words .exit)) (now (values .exit)) (now (errors .exit)) ⌝ }
+// The record at a place of a legal file goes to its buffer; answers its judgement. Lines that E passes over, and those after the last E, get error 0.
+fn step(
+    file: &[u8],
+    at: usize,
+    tally: Tally,
+    words: &mut [u64],
+    values: &mut [u64],
+    errors: &mut [u64],
+) -> Judged
+    requires { ⌜ (at ≤ length (now file)) × Ready tally (recordAt (now file) at) (now words) (now values) (now errors) ⌝ }
+    ensures { λ r. ⌜ Stepped (now (file .entry)) at tally r (now (words .entry)) (now (values .entry)) (now (errors .entry)) (now (words .exit)) (now (values .exit)) (now (errors .exit)) ⌝ }
 {
+    let found = records::record_at(file, at);
+    let judged = records::rules::judge(tally, found);
     match found {
         FileRecord::Word(word) => {
             let i = tally.words;
@@ -49,33 +57,18 @@ fn put(tally: Tally, found: FileRecord, words: &mut [u64], values: &mut [u64], e
         }
         FileRecord::Nothing => {}
     }
+    judged
 }
 
-// The record at a place of a legal file goes to the buffers; answers its judgement.
-fn step(
-    file: &[u8],
-    at: usize,
-    tally: Tally,
-    words: &mut [u64],
-    values: &mut [u64],
-    errors: &mut [u64],
-) -> Judged
-    requires { ⌜ (at ≤ length (now file)) × Ready tally (recordAt (now file) at) (now words) (now values) (now errors) ⌝ }
-    ensures { λ r. ⌜ Stepped (now (file .entry)) at tally r (now (words .entry)) (now (values .entry)) (now (errors .entry)) (now (words .exit)) (now (values .exit)) (now (errors .exit)) ⌝ }
-{
-    let found = records::record_at(file, at);
-    put(tally, found, words, values, errors);
-    rules::judge(tally, found)
-}
-
-// The reader's answer: the plan, and the counts of words and lines.
-fn contents(plan: Plan, tally: Tally) -> Contents
-    ensures { λ r. ⌜ r ≡ contentsWith plan tally ⌝ }
+// The reader's answer: the plan, which stands first, and the counts of words and lines.
+fn contents(file: &[u8], tally: Tally) -> Contents
+    requires { ⌜ 18 ≤ length (now file) ⌝ }
+    ensures { λ r. ⌜ r ≡ contentsWith (planOf (now (file .entry))) tally ⌝ }
 {
     Contents {
-        level: plan.level,
-        te: plan.te,
-        ae: plan.ae,
+        level: file[1],
+        te: records::numbers::eight_bytes(file, 2),
+        ae: records::numbers::eight_bytes(file, 10),
         words: tally.words as u64,
         lines: tally.lines as u64,
     }
@@ -86,11 +79,6 @@ pub fn store(file: &[u8], words: &mut [u64], values: &mut [u64], errors: &mut [u
     requires { ⌜ IsLegal (now file) × Rooms (now words) (now values) (now errors) ⌝ }
     ensures { λ r. ⌜ Stored (now (file .entry)) (now (words .entry)) (now (values .entry)) (now (errors .entry)) r (now (words .exit)) (now (values .exit)) (now (errors .exit)) ⌝ }
 {
-    let plan = Plan {
-        level: file[1],
-        te: records::eight_bytes(file, 2),
-        ae: records::eight_bytes(file, 10),
-    };
     let mut at: usize = 18;
     let mut tally = Tally {
         words: 0,
@@ -105,12 +93,9 @@ pub fn store(file: &[u8], words: &mut [u64], values: &mut [u64], errors: &mut [u
                 tally = next;
                 at = at + size;
             }
-            Judged::Last => {
-                return contents(plan, tally);
-            }
-            // Not met in a legal file.
-            Judged::Bad => {
-                return contents(plan, tally);
+            // Z, for a legal file breaks no rule.
+            _ => {
+                return contents(file, tally);
             }
         }
     }

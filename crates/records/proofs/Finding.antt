@@ -12,7 +12,7 @@ use Rattle.terms.specs.Numbers.{pick}
 use Rattle.workfile.specs.Numbers.{littleEndian}
 use Rattle.workfile.specs.Decode.{recordOf}
 use Rattle.workfile.specs.declared.FileRecord.the-variants.{Word, Value, ErrorOf, End, Nothing}
-use Rattle.reader.specs.Steps.{recordAt}
+use Rattle.records.specs.Judging.{recordAt}
 
 pub of-four : (f : List ℕ) (at : ℕ) → littleEndian 4 (drop at f) ≡ getD f at 0 + 0x100 * getD f (at + 1) 0 + 0x10000 * getD f (at + 2) 0 + 0x1000000 * getD f (at + 3) 0
 unfolding littleEndian

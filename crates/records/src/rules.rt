@@ -4,7 +4,7 @@ use workfile::FileRecord;
 use workfile::Tally;
 ghost use mathlib.Core.Path.{_≡_};
 ghost use Rattle.workfile.specs.declared.FileRecord.the-variants.{Word, Value, ErrorOf, End};
-ghost use Rattle.reader.specs.Steps.{judged};
+ghost use Rattle.records.specs.Judging.{judged};
 
 // W: before any L, and at most 64.
 fn judge_word(tally: Tally, word: u64) -> Judged
@@ -82,6 +82,7 @@ fn judge_end(tally: Tally, count: usize, sum: u64) -> Judged
     Judged::Bad
 }
 
+// Each kind by its own function.
 pub fn judge(tally: Tally, found: FileRecord) -> Judged
     ensures { λ r. ⌜ r ≡ judged tally found ⌝ }
 {

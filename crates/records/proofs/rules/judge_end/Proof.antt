@@ -1,8 +1,8 @@
--- `reader::rules::judge_end` meets its contract: the tests are the rule. Assumes nothing.
+-- `records::rules::judge_end` meets its contract: the tests are the rule. Assumes nothing.
 use native.Mathlib.Omega.{arith}
-use Rattle.reader.proofs.Passing.{passes, fails}
-use Rattle.reader.proofs.rules.judge_end.Statement.{statement}
-use Rattle.reader.proofs.rules.judge_end.Tie as tie
+use Rattle.records.proofs.Judging.{passes, fails}
+use Rattle.records.proofs.rules.judge_end.Statement.{statement}
+use Rattle.records.proofs.rules.judge_end.Tie as tie
 
 returns : tie.Need-returns
 returns c = passes _ _ (omega arith)

@@ -1,10 +1,10 @@
--- `reader::records::four_bytes` meets its contract: the sum is that of `of-four`. Assumes nothing.
+-- `records::numbers::four_bytes` meets its contract: the sum is that of `of-four`. Assumes nothing.
 use borrow.Author.Needs.{needs}
 use denote.Ref.{now}
 use native.Mathlib.Omega.{arith}
-use Rattle.reader.proofs.Finding.{of-four}
-use Rattle.reader.proofs.records.four_bytes.Statement.{statement}
-use Rattle.reader.proofs.records.four_bytes.Tie as tie
+use Rattle.records.proofs.Finding.{of-four}
+use Rattle.records.proofs.numbers.four_bytes.Statement.{statement}
+use Rattle.records.proofs.numbers.four_bytes.Tie as tie
 
 shared-slice-read-wide : tie.Need-shared-slice-read-wide
 shared-slice-read-wide c = search needs

@@ -1,9 +1,9 @@
--- `reader::rules::judge_value` meets its contract: the tests are the rule. Assumes nothing.
+-- `records::rules::judge_value` meets its contract: the tests are the rule. Assumes nothing.
 use borrow.Author.Needs.{needs}
 use native.Mathlib.Omega.{arith}
-use Rattle.reader.proofs.Passing.{passes, fails}
-use Rattle.reader.proofs.rules.judge_value.Statement.{statement}
-use Rattle.reader.proofs.rules.judge_value.Tie as tie
+use Rattle.records.proofs.Judging.{passes, fails}
+use Rattle.records.proofs.rules.judge_value.Statement.{statement}
+use Rattle.records.proofs.rules.judge_value.Tie as tie
 
 sub-if3 : tie.Need-sub-if3
 sub-if3 c = search needs

@@ -1,9 +1,9 @@
--- `reader::rules::judge_error` meets its contract: the tests are the rule. Assumes nothing.
+-- `records::rules::judge_error` meets its contract: the tests are the rule. Assumes nothing.
 use borrow.Author.Needs.{needs}
 use native.Mathlib.Omega.{arith}
-use Rattle.reader.proofs.Passing.{passes, fails}
-use Rattle.reader.proofs.rules.judge_error.Statement.{statement}
-use Rattle.reader.proofs.rules.judge_error.Tie as tie
+use Rattle.records.proofs.Judging.{passes, fails}
+use Rattle.records.proofs.rules.judge_error.Statement.{statement}
+use Rattle.records.proofs.rules.judge_error.Tie as tie
 
 add-t7 : tie.Need-add-t7
 add-t7 c = search needs

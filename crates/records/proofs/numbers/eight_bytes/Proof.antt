@@ -1,10 +1,10 @@
--- `reader::records::eight_bytes` meets its contract: the sum is that of `of-eight`. Assumes nothing.
+-- `records::numbers::eight_bytes` meets its contract: the sum is that of `of-eight`. Assumes nothing.
 use borrow.Author.Needs.{needs}
 use denote.Ref.{now}
 use native.Mathlib.Omega.{arith}
-use Rattle.reader.proofs.Finding.{of-eight}
-use Rattle.reader.proofs.records.eight_bytes.Statement.{statement}
-use Rattle.reader.proofs.records.eight_bytes.Tie as tie
+use Rattle.records.proofs.Finding.{of-eight}
+use Rattle.records.proofs.numbers.eight_bytes.Statement.{statement}
+use Rattle.records.proofs.numbers.eight_bytes.Tie as tie
 
 four-bytes-requires : tie.Need-four-bytes-requires
 four-bytes-requires c κs = search needs

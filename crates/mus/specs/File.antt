@@ -7,10 +7,10 @@ use Rattle.terms.specs.Outcome.{accepted, after, left}
 use Rattle.workfile.specs.declared.Plan.{Plan}
 use Rattle.workfile.specs.Promises.{over, countsOf, readOf, contentWith, writeOf}
 use Rattle.sheet.specs.Sheet.{sheetText, sheetOf}
-use Rattle.mus.specs.declared.ReadResult.{ReadResult}
-use Rattle.mus.specs.declared.WriteResult.{WriteResult}
-use Rattle.mus.specs.declared.SheetResult.{SheetResult}
-use Rattle.mus.specs.Results.{readSeen, writeSeen, sheetSeen}
+use Rattle.results.specs.declared.ReadResult.{ReadResult}
+use Rattle.results.specs.declared.WriteResult.{WriteResult}
+use Rattle.results.specs.declared.SheetResult.{SheetResult}
+use Rattle.results.specs.Results.{readSeen, writeSeen, sheetSeen}
 
 -- words, values and errors are the buffers before, words′, values′ and errors′ after
 pub record ReadSeen (file words values errors : List ℕ) (r : ReadResult) (words′ values′ errors′ : List ℕ) : Type 0 where

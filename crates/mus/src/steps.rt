@@ -1,17 +1,10 @@
 // The steps of the method: size, split, start, draw, projection and judgement.
-use crate::DrawResult;
-use crate::JudgeResult;
-use crate::ProjectResult;
-use crate::SizeResult;
-use crate::SplitResult;
-use crate::StartResult;
-use draw::DrawAnswer;
-use judge::JudgeAnswer;
-use judge::Verdict;
-use project::ProjectAnswer;
-use size::SizeAnswer;
-use split::SplitAnswer;
-use start::StartAnswer;
+use results::DrawResult;
+use results::JudgeResult;
+use results::ProjectResult;
+use results::SizeResult;
+use results::SplitResult;
+use results::StartResult;
 ghost use mathlib.Core.Path.{_≡_};
 ghost use lib.ListN.{length};
 ghost use Rattle.terms.specs.Outcome.{left};
@@ -21,25 +14,14 @@ ghost use Rattle.start.specs.Start.{startOf};
 ghost use Rattle.draw.specs.Draw.{figuresFor, marksAt, drawOf};
 ghost use Rattle.project.specs.Project.{projectOf};
 ghost use Rattle.judge.specs.Judge.{judgeOf};
-ghost use Rattle.mus.specs.Results.{sizeSeen, splitSeen, startSeen, drawSeen, projectSeen, verdictNumber, judgeSeen};
+ghost use Rattle.results.specs.Results.{sizeSeen, splitSeen, startSeen, drawSeen, projectSeen, judgeSeen};
 
 // The number of draws.
 #[no_mangle]
 pub extern "C" fn mus_size(level: u8, total: u64, te: u64, ae: u64) -> SizeResult
     ensures { λ r. ⌜ r ≡ sizeSeen (sizeOf level total te ae) ⌝ }
 {
-    match size::size(level, total, te, ae) {
-        SizeAnswer::Refused(why) => SizeResult {
-            refusal: terms::number_of(why),
-            place: terms::place_of(why),
-            draws: 0,
-        },
-        SizeAnswer::Draws(draws) => SizeResult {
-            refusal: 0,
-            place: 0,
-            draws,
-        },
-    }
+    results::steps::of_size(size::size(level, total, te, ae))
 }
 
 // The split, and the marks: 2 for full, 0 for the others.
@@ -49,26 +31,7 @@ pub extern "C" fn mus_split(ledger: &[u64], n: u64, marks: &mut [u8]) -> SplitRe
     ensures marked { λ r. ⌜ now (marks .exit)
         ≡ left (marksOf (now (ledger .entry))) (now (marks .entry)) (splitOf (now (ledger .entry)) n (length (now (marks .entry)))) ⌝ }
 {
-    match split::split(ledger, n, marks) {
-        SplitAnswer::Refused(why) => SplitResult {
-            refusal: terms::number_of(why),
-            place: terms::place_of(why),
-            interval: 0,
-            draws_left: 0,
-            sampled_total: 0,
-            full_lines: 0,
-            full_total: 0,
-        },
-        SplitAnswer::Split(figures) => SplitResult {
-            refusal: 0,
-            place: 0,
-            interval: figures.interval,
-            draws_left: figures.draws_left,
-            sampled_total: figures.sampled_total,
-            full_lines: figures.full_lines,
-            full_total: figures.full_total,
-        },
-    }
+    results::steps::of_split(split::split(ledger, n, marks))
 }
 
 // The random start below an interval.
@@ -76,20 +39,7 @@ pub extern "C" fn mus_split(ledger: &[u64], n: u64, marks: &mut [u8]) -> SplitRe
 pub extern "C" fn mus_start(interval: u64, words: &[u64]) -> StartResult
     ensures { λ r. ⌜ r ≡ startSeen (startOf interval (now (words .entry))) ⌝ }
 {
-    match start::start(interval, words) {
-        StartAnswer::Refused(why) => StartResult {
-            refusal: terms::number_of(why),
-            place: terms::place_of(why),
-            start: 0,
-            words: 0,
-        },
-        StartAnswer::Started(chosen) => StartResult {
-            refusal: 0,
-            place: 0,
-            start: chosen.start,
-            words: chosen.words,
-        },
-    }
+    results::steps::of_start(start::start(interval, words))
 }
 
 // The draw, and the marks: 1 for drawn, 2 for full, 0 for the others.
@@ -99,18 +49,7 @@ pub extern "C" fn mus_draw(ledger: &[u64], n: u64, start: u64, marks: &mut [u8])
     ensures marked { λ r. ⌜ now (marks .exit)
         ≡ left (marksAt (now (ledger .entry)) start) (now (marks .entry)) (figuresFor (now (ledger .entry)) n start (length (now (marks .entry)))) ⌝ }
 {
-    match draw::draw(ledger, n, start, marks) {
-        DrawAnswer::Refused(why) => DrawResult {
-            refusal: terms::number_of(why),
-            place: terms::place_of(why),
-            drawn: 0,
-        },
-        DrawAnswer::Drawn(drawn) => DrawResult {
-            refusal: 0,
-            place: 0,
-            drawn,
-        },
-    }
+    results::steps::of_draw(draw::draw(ledger, n, start, marks))
 }
 
 // The projection of the errors.
@@ -118,33 +57,7 @@ pub extern "C" fn mus_draw(ledger: &[u64], n: u64, start: u64, marks: &mut [u8])
 pub extern "C" fn mus_project(ledger: &[u64], n: u64, start: u64, errors: &[u64]) -> ProjectResult
     ensures { λ r. ⌜ r ≡ projectSeen (projectOf (now (ledger .entry)) n start (now (errors .entry))) ⌝ }
 {
-    match project::project(ledger, n, start, errors) {
-        ProjectAnswer::Refused(why) => ProjectResult {
-            refusal: terms::number_of(why),
-            place: terms::place_of(why),
-            full: 0,
-            sampled: 0,
-            m: 0,
-        },
-        ProjectAnswer::Projected(projection) => ProjectResult {
-            refusal: 0,
-            place: 0,
-            full: projection.full,
-            sampled: projection.sampled,
-            m: projection.m,
-        },
-    }
-}
-
-// The number of a verdict.
-fn verdict_number(verdict: Verdict) -> u64
-    ensures { λ r. ⌜ r ≡ verdictNumber verdict ⌝ }
-{
-    match verdict {
-        Verdict::Below => 1,
-        Verdict::Inconclusive => 2,
-        Verdict::Above => 3,
-    }
+    results::steps::of_project(project::project(ledger, n, start, errors))
 }
 
 // The judgement: the projection with the precision, the upper limit and the verdict.
@@ -159,30 +72,5 @@ pub extern "C" fn mus_judge(
 ) -> JudgeResult
     ensures { λ r. ⌜ r ≡ judgeSeen (judgeOf level (now (ledger .entry)) n start (now (errors .entry)) te) ⌝ }
 {
-    match judge::judge(level, ledger, n, start, errors, te) {
-        JudgeAnswer::Refused(why) => JudgeResult {
-            refusal: terms::number_of(why),
-            place: terms::place_of(why),
-            full: 0,
-            sampled: 0,
-            m: 0,
-            precision: 0,
-            upper_limit: 0,
-            verdict: 0,
-        },
-        JudgeAnswer::Judged(judgement) => {
-            let projection = judgement.projection;
-            let verdict = judgement.verdict;
-            JudgeResult {
-                refusal: 0,
-                place: 0,
-                full: projection.full,
-                sampled: projection.sampled,
-                m: projection.m,
-                precision: judgement.precision,
-                upper_limit: judgement.upper_limit,
-                verdict: verdict_number(verdict),
-            }
-        }
-    }
+    results::steps::of_judge(judge::judge(level, ledger, n, start, errors, te))
 }

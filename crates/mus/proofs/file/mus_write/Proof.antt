@@ -1,51 +1,23 @@
--- `mus::file::mus_write` meets its contract: what it returns is what the writer's answer says. Assumes nothing.
-use mathlib.Core.Path.{_≡_, sym, ap, _∙_}
-use Rattle.workfile.specs.Promises.{writeSays}
-use Rattle.mus.specs.Results.{writeSeen}
-use Rattle.mus.proofs.Refused.{told}
+-- `mus::file::mus_write` meets its contract: C sees what the writer says. Assumes nothing.
+use mathlib.Core.Path.{ap, _∙_}
 use borrow.Author.Needs.{needs}
+use Rattle.results.specs.Results.{writeSeen}
 use Rattle.mus.proofs.file.mus_write.Statement.{statement}
 use Rattle.mus.proofs.file.mus_write.Tie as tie
 
 write-requires : tie.Need-write-requires
 write-requires c κs = search needs
 
-enum-known-why : tie.Need-enum-known-why
-enum-known-why c = search needs
-
-number-of-requires : tie.Need-number-of-requires
-number-of-requires c κs = search needs
-
-place-of-requires : tie.Need-place-of-requires
-place-of-requires c κs = search needs
-
-enum-known-length : tie.Need-enum-known-length
-enum-known-length c = search needs
+of-write-requires : tie.Need-of-write-requires
+of-write-requires c κs = search needs
 
 same-length : tie.Need-same-length
 same-length c = search needs
 
 returns : tie.Need-returns
 returns c =
-    record { answer = ap writeSeen (told (c .before .number-of .ensures) (c .place-of .ensures) (sym (ap writeSays (c .before .before .before .why .given .1)) ∙ c .before .before .before .before .before .before .before .write .ensures .answer)); file-left = c .before .before .before .before .before .before .before .write .ensures .file-left }
-
-same-length-2 : tie.Need-same-length-2
-same-length-2 c = search needs
-
-returns-2 : tie.Need-returns-2
-returns-2 c =
-    record { answer = ap writeSeen (sym (ap writeSays (c .before .length .given .1)) ∙ c .before .before .before .before .before .write .ensures .answer); file-left = c .before .before .before .before .before .write .ensures .file-left }
+    let met = c .before .before .before .write .ensures in
+    record { answer = c .of-write .ensures ∙ ap writeSeen (met .answer); file-left = met .file-left }
 
 pub mus-write-spec : {M : Type 1} → statement M
-mus-write-spec =
-    tie.close
-    (tie.spec
-    write-requires
-    enum-known-why
-    number-of-requires
-    place-of-requires
-    enum-known-length
-    same-length
-    returns
-    same-length-2
-    returns-2)
+mus-write-spec = tie.close (tie.spec write-requires of-write-requires same-length returns)

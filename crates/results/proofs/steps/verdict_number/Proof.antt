@@ -1,9 +1,9 @@
--- `mus::steps::verdict_number` meets its contract. Assumes nothing.
+-- `results::steps::verdict_number` meets its contract. Assumes nothing.
 use mathlib.Core.Path.{sym, ap}
 use borrow.Author.Needs.{needs}
-use Rattle.mus.specs.Results.{verdictNumber}
-use Rattle.mus.proofs.steps.verdict_number.Statement.{statement}
-use Rattle.mus.proofs.steps.verdict_number.Tie as tie
+use Rattle.results.specs.Results.{verdictNumber}
+use Rattle.results.proofs.steps.verdict_number.Statement.{statement}
+use Rattle.results.proofs.steps.verdict_number.Tie as tie
 
 enum-told : tie.Need-enum-told
 enum-told c = search needs

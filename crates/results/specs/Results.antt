@@ -8,16 +8,16 @@ use Rattle.judge.specs.declared.Judgement.{Judgement}
 use Rattle.judge.specs.declared.Verdict.{Verdict}
 use Rattle.judge.specs.declared.Verdict.the-variants.{Below, Inconclusive, Above}
 use Rattle.workfile.specs.declared.Contents.{Contents}
-use Rattle.mus.specs.Seen.{numberSeen, placeSeen, seen}
-use Rattle.mus.specs.declared.SizeResult.{SizeResult}
-use Rattle.mus.specs.declared.SplitResult.{SplitResult}
-use Rattle.mus.specs.declared.StartResult.{StartResult}
-use Rattle.mus.specs.declared.DrawResult.{DrawResult}
-use Rattle.mus.specs.declared.ProjectResult.{ProjectResult}
-use Rattle.mus.specs.declared.JudgeResult.{JudgeResult}
-use Rattle.mus.specs.declared.ReadResult.{ReadResult}
-use Rattle.mus.specs.declared.WriteResult.{WriteResult}
-use Rattle.mus.specs.declared.SheetResult.{SheetResult}
+use Rattle.results.specs.Seen.{numberSeen, placeSeen, seen}
+use Rattle.results.specs.declared.SizeResult.{SizeResult}
+use Rattle.results.specs.declared.SplitResult.{SplitResult}
+use Rattle.results.specs.declared.StartResult.{StartResult}
+use Rattle.results.specs.declared.DrawResult.{DrawResult}
+use Rattle.results.specs.declared.ProjectResult.{ProjectResult}
+use Rattle.results.specs.declared.JudgeResult.{JudgeResult}
+use Rattle.results.specs.declared.ReadResult.{ReadResult}
+use Rattle.results.specs.declared.WriteResult.{WriteResult}
+use Rattle.results.specs.declared.SheetResult.{SheetResult}
 
 abbrev pub sizeSeen : Outcome ℕ → SizeResult
 sizeSeen o = record { refusal = numberSeen o; place = placeSeen o; draws = seen (λ draws. draws) o }

@@ -7,7 +7,7 @@ use Rattle.terms.specs.declared.Refusal.{Refusal}
 use Rattle.terms.specs.declared.Refusal.the-variants.{UnknownLevel, TooManyLines, ValueTooLarge, TotalTooLarge, TotalZero, ToleranceOutOfRange, ToleranceSpent, NoDraws, DrawsUsedUp, IntervalTooLarge, StartOutOfRange, NoWordPasses, LengthsDiffer, ErrorAboveValue, ErrorNotDrawn, TooManyErrors, FileBreaksRule, RoomTooShort, NoLegalFile}
 use Rattle.terms.specs.Refusals.{number}
 use Rattle.terms.specs.Outcome.{Outcome, refused, refusedBy}
-use Rattle.mus.specs.Seen.{numberSeen}
+use Rattle.results.specs.Seen.{numberSeen}
 
 pub told : {A : Type 0} {n p number place : ℕ} {o : Outcome A} → n ≡ number → p ≡ place → refused number place ≡ o → refused n p ≡ o
 told e f g = (λ i. refused (e i) (f i)) ∙ g

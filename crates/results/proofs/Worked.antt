@@ -10,7 +10,7 @@ use Rattle.ledger.specs.Ledger.{ledgerOf, linesOf, linesFrom}
 use Rattle.split.specs.Rounds.{rounds}
 use Rattle.split.specs.Split.{splitOf, figuresFrom}
 use Rattle.start.specs.Start.{tried, firstFrom, startOf}
-use Rattle.mus.specs.Results.{sizeSeen, splitSeen, startSeen}
+use Rattle.results.specs.Results.{sizeSeen, splitSeen, startSeen}
 
 pub size-seen : sizeSeen (sizeOf 95 1000000 20000 0) ≡ record { refusal = 0; place = 0; draws = 150 }
 unfolding sizeOf sizeAt levelOf divUp rf table

@@ -1,0 +1,83 @@
+// What a caller in C sees of each operation's answer: a struct of the refusal's number and place, 0 where the call is accepted, and the
+// figures, 0 where it is refused.
+pub mod file; // file.rt: answers of the working file and its sheet
+pub mod steps; // steps.rt: answers of the steps
+
+#[repr(C)]
+pub struct SizeResult {
+    pub refusal: u64,
+    pub place: u64,
+    pub draws: u64,
+}
+
+#[repr(C)]
+pub struct SplitResult {
+    pub refusal: u64,
+    pub place: u64,
+    pub interval: u64,
+    pub draws_left: u64,
+    pub sampled_total: u64,
+    pub full_lines: u64,
+    pub full_total: u64,
+}
+
+#[repr(C)]
+pub struct StartResult {
+    pub refusal: u64,
+    pub place: u64,
+    pub start: u64,
+    pub words: u64,
+}
+
+#[repr(C)]
+pub struct DrawResult {
+    pub refusal: u64,
+    pub place: u64,
+    pub drawn: u64,
+}
+
+#[repr(C)]
+pub struct ProjectResult {
+    pub refusal: u64,
+    pub place: u64,
+    pub full: u64,
+    pub sampled: u64,
+    pub m: u64,
+}
+
+#[repr(C)]
+pub struct JudgeResult {
+    pub refusal: u64,
+    pub place: u64,
+    pub full: u64,
+    pub sampled: u64,
+    pub m: u64,
+    pub precision: u64,
+    pub upper_limit: u64,
+    pub verdict: u64,
+}
+
+#[repr(C)]
+pub struct ReadResult {
+    pub refusal: u64,
+    pub place: u64,
+    pub level: u64,
+    pub te: u64,
+    pub ae: u64,
+    pub words: u64,
+    pub lines: u64,
+}
+
+#[repr(C)]
+pub struct WriteResult {
+    pub refusal: u64,
+    pub place: u64,
+    pub length: u64,
+}
+
+#[repr(C)]
+pub struct SheetResult {
+    pub refusal: u64,
+    pub place: u64,
+    pub length: u64,
+}

@@ -119,3 +119,7 @@ printed text old r new h w =
     let here : new ≡ text ++ drop (length text) old = ap (λ (p : Page). p .bytes) whole in
     let room : r ≤ length new = rw (at, here, length-append text (drop (length text) old)) (omega arith) in
     record { counted = at; whole = here; within = room; front = sym (length-take-le r new room) }
+
+-- any two printings of one text agree
+pub printed-once : {text old new₁ new₂ : List ℕ} {r₁ r₂ : ℕ} → Printed text old r₁ new₁ → Printed text old r₂ new₂ → (r₁ ≡ r₂) × (new₁ ≡ new₂)
+printed-once p q = (p .counted ∙ sym (q .counted), p .whole ∙ sym (q .whole))

@@ -28,23 +28,20 @@ pub fn record_at(file: &[u8], at: usize) -> FileRecord
         return FileRecord::Nothing;
     }
     let kind = file[at];
-    let number = eight_bytes(file, at + 1);
     if kind == 0x57 {
-        return FileRecord::Word(number);
+        return FileRecord::Word(eight_bytes(file, at + 1));
     }
     if kind == 0x4C {
-        return FileRecord::Value(number);
+        return FileRecord::Value(eight_bytes(file, at + 1));
     }
     if left < 13 {
         return FileRecord::Nothing;
     }
-    let first = four_bytes(file, at + 1);
-    let second = eight_bytes(file, at + 5);
     if kind == 0x45 {
-        return FileRecord::ErrorOf(first as usize, second);
+        return FileRecord::ErrorOf(four_bytes(file, at + 1) as usize, eight_bytes(file, at + 5));
     }
     if kind == 0x5A {
-        return FileRecord::End(first as usize, second);
+        return FileRecord::End(four_bytes(file, at + 1) as usize, eight_bytes(file, at + 5));
     }
     FileRecord::Nothing
 }

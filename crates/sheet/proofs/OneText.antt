@@ -1,15 +1,11 @@
--- The promises leave no freedom: any two results that meet one agree. Assumes nothing.
+-- The promise of `sheet_in` leaves no freedom: any two results that meet it agree. Assumes nothing.
 use Prim.Native.Nat.{ℕ}
 use mathlib.Core.Path.{_≡_, sym, ap, _∙_}
 use mathlib.Core.List.{List}
 use Rattle.terms.proofs.Outcomes.{never, refused-once}
-use Rattle.pen.specs.Page as Page
 use Rattle.sheet.specs.declared.SheetAnswer.{SheetAnswer}
 use Rattle.sheet.specs.declared.SheetAnswer.the-variants.{Printed, Refused}
 use Rattle.sheet.specs.Sheet.{sheetSays, SheetPromise}
-
-pub printed-once : {text page page₁ page₂ : List ℕ} {r₁ r₂ : ℕ} → Page.Printed text page r₁ page₁ → Page.Printed text page r₂ page₂ → (r₁ ≡ r₂) × (page₁ ≡ page₂)
-printed-once p q = (p .counted ∙ sym (q .counted), p .whole ∙ sym (q .whole))
 
 -- an outcome is said by one answer
 one-answer : (r q : SheetAnswer) → sheetSays r ≡ sheetSays q → r ≡ q

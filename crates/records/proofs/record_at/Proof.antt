@@ -1,5 +1,6 @@
 -- `records::record_at` meets its contract: the kind and the bytes left say which record stands there. Assumes nothing.
 use borrow.Author.Needs.{needs}
+use native.Mathlib.Omega.{arith}
 use Rattle.records.proofs.Finding.{no-nine, no-thirteen, no-kind, word-at, value-at, error-at, end-at}
 use Rattle.records.proofs.record_at.Statement.{statement}
 use Rattle.records.proofs.record_at.Tie as tie
@@ -8,7 +9,7 @@ sub-left : tie.Need-sub-left
 sub-left c = search needs
 
 returns : tie.Need-returns
-returns c = no-nine _ _ (c .if1 .taken)
+returns c = no-nine _ _ (omega arith)
 
 shared-slice-read-kind : tie.Need-shared-slice-read-kind
 shared-slice-read-kind c = search needs
@@ -20,19 +21,7 @@ eight-bytes-requires : tie.Need-eight-bytes-requires
 eight-bytes-requires c κs = search needs
 
 returns-2 : tie.Need-returns-2
-returns-2 c = word-at _ _ _ (c .if2 .taken) (c .before .before .before .if1 .left) (c .before .eight-bytes .ensures)
-
-returns-3 : tie.Need-returns-3
-returns-3 c = value-at _ _ _ (c .if3 .taken) (c .before .before .before .before .if1 .left) (c .before .before .eight-bytes .ensures)
-
-returns-4 : tie.Need-returns-4
-returns-4 c = no-thirteen _ _ (c .if4 .taken) (c .before .before .if2 .left) (c .before .if3 .left)
-
-add-four-bytes : tie.Need-add-four-bytes
-add-four-bytes c = search needs
-
-four-bytes-requires : tie.Need-four-bytes-requires
-four-bytes-requires c κs = search needs
+returns-2 c = word-at _ _ _ (omega arith) (omega arith) (c .eight-bytes .ensures)
 
 add-eight-bytes-2 : tie.Need-add-eight-bytes-2
 add-eight-bytes-2 c = search needs
@@ -40,16 +29,44 @@ add-eight-bytes-2 c = search needs
 eight-bytes-requires-2 : tie.Need-eight-bytes-requires-2
 eight-bytes-requires-2 c κs = search needs
 
+returns-3 : tie.Need-returns-3
+returns-3 c = value-at _ _ _ (omega arith) (omega arith) (c .eight-bytes2 .ensures)
+
+returns-4 : tie.Need-returns-4
+returns-4 c = no-thirteen _ _ (omega arith) (omega arith) (omega arith)
+
+add-four-bytes : tie.Need-add-four-bytes
+add-four-bytes c = search needs
+
+four-bytes-requires : tie.Need-four-bytes-requires
+four-bytes-requires c κs = search needs
+
+add-eight-bytes-3 : tie.Need-add-eight-bytes-3
+add-eight-bytes-3 c = search needs
+
+eight-bytes-requires-3 : tie.Need-eight-bytes-requires-3
+eight-bytes-requires-3 c κs = search needs
+
 returns-5 : tie.Need-returns-5
-returns-5 c = error-at _ _ _ _ (c .if5 .taken) (c .before .before .before .if4 .left) (c .before .before .four-bytes .ensures .0) (c .before .eight-bytes2 .ensures)
+returns-5 c = error-at _ _ _ _ (omega arith) (omega arith) (c .before .four-bytes .ensures .0) (c .eight-bytes3 .ensures)
+
+add-four-bytes-2 : tie.Need-add-four-bytes-2
+add-four-bytes-2 c = search needs
+
+four-bytes-requires-2 : tie.Need-four-bytes-requires-2
+four-bytes-requires-2 c κs = search needs
+
+add-eight-bytes-4 : tie.Need-add-eight-bytes-4
+add-eight-bytes-4 c = search needs
+
+eight-bytes-requires-4 : tie.Need-eight-bytes-requires-4
+eight-bytes-requires-4 c κs = search needs
 
 returns-6 : tie.Need-returns-6
-returns-6 c =
-    let a = c .before .before .before .before .before .before .before .before .before .before .before .args in
-    end-at (a .file .now) (a .at) _ _ (c .if6 .taken) (c .before .before .before .before .if4 .left) (c .before .before .before .four-bytes .ensures .0) (c .before .before .eight-bytes2 .ensures)
+returns-6 c = end-at _ _ _ _ (omega arith) (omega arith) (c .before .four-bytes2 .ensures .0) (c .eight-bytes4 .ensures)
 
 returns-7 : tie.Need-returns-7
-returns-7 c = no-kind _ _ (c .before .before .before .before .before .before .if2 .left) (c .before .before .before .before .before .if3 .left) (c .before .if5 .left) (c .if6 .left)
+returns-7 c = no-kind _ _ (omega arith) (omega arith) (omega arith) (omega arith)
 
 pub record-at-spec : {M : Type 1} → statement M
 record-at-spec =
@@ -61,12 +78,18 @@ record-at-spec =
     add-eight-bytes
     eight-bytes-requires
     returns-2
+    add-eight-bytes-2
+    eight-bytes-requires-2
     returns-3
     returns-4
     add-four-bytes
     four-bytes-requires
-    add-eight-bytes-2
-    eight-bytes-requires-2
+    add-eight-bytes-3
+    eight-bytes-requires-3
     returns-5
+    add-four-bytes-2
+    four-bytes-requires-2
+    add-eight-bytes-4
+    eight-bytes-requires-4
     returns-6
     returns-7)

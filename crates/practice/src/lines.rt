@@ -19,6 +19,27 @@ pub fn close(pen: Pen, page: &mut [u8]) {
     }
 }
 
+// A case that finds an answer: its figures or its refusal.
+pub fn answer(name: &[u8], expected: &[u8], refusal: u64, place: u64, figures: &[u64]) {
+    judgement(name, expected, refusal, place, figures, 0);
+}
+
+// The same with the number of a verdict, 0 for none.
+pub fn judgement(
+    name: &[u8],
+    expected: &[u8],
+    refusal: u64,
+    place: u64,
+    figures: &[u64],
+    verdict: u64,
+) {
+    let mut page = [0u8; 200];
+    let opened = open(&mut page, name, expected);
+    let told = answers::put_answer(opened, &mut page, refusal, place, figures);
+    let judged = answers::put_verdict(told, &mut page, verdict);
+    close(judged, &mut page);
+}
+
 // A case that finds a number.
 pub fn number(name: &[u8], expected: &[u8], found: u64) {
     let mut page = [0u8; 200];

@@ -3,17 +3,20 @@ use crate::lines;
 use split::SplitAnswer;
 
 pub fn size(name: &[u8], expected: &[u8], level: u8, total: u64, te: u64, ae: u64) {
-    let mut page = [0u8; 200];
-    let opened = lines::open(&mut page, name, expected);
-    let told = answers::put_size(opened, &mut page, size::size(level, total, te, ae));
-    lines::close(told, &mut page);
+    let r = results::steps::of_size(size::size(level, total, te, ae));
+    lines::answer(name, expected, r.refusal, r.place, &[r.draws]);
 }
 
 pub fn figures(name: &[u8], expected: &[u8], answer: SplitAnswer) {
-    let mut page = [0u8; 200];
-    let opened = lines::open(&mut page, name, expected);
-    let told = answers::put_split(opened, &mut page, answer);
-    lines::close(told, &mut page);
+    let r = results::steps::of_split(answer);
+    let figures = [
+        r.interval,
+        r.draws_left,
+        r.sampled_total,
+        r.full_lines,
+        r.full_total,
+    ];
+    lines::answer(name, expected, r.refusal, r.place, &figures);
 }
 
 // The split's figures, and the marks that it leaves where 9 stood.
@@ -30,10 +33,8 @@ pub fn split(
 }
 
 pub fn start(name: &[u8], expected: &[u8], interval: u64, words: &[u64]) {
-    let mut page = [0u8; 200];
-    let opened = lines::open(&mut page, name, expected);
-    let told = answers::put_start(opened, &mut page, start::start(interval, words));
-    lines::close(told, &mut page);
+    let r = results::steps::of_start(start::start(interval, words));
+    lines::answer(name, expected, r.refusal, r.place, &[r.start, r.words]);
 }
 
 // The number of lines drawn, and the marks that the draw leaves.
@@ -46,22 +47,20 @@ pub fn draw(
     start: u64,
     marks: &mut [u8],
 ) {
-    let mut page = [0u8; 200];
-    let opened = lines::open(&mut page, name, expected);
-    let told = answers::put_draw(opened, &mut page, draw::draw(ledger, n, start, marks));
-    lines::close(told, &mut page);
+    let r = results::steps::of_draw(draw::draw(ledger, n, start, marks));
+    lines::answer(name, expected, r.refusal, r.place, &[r.drawn]);
     lines::marks(b"  its marks", marked, marks);
 }
 
 pub fn project(name: &[u8], expected: &[u8], ledger: &[u64], n: u64, start: u64, errors: &[u64]) {
-    let mut page = [0u8; 200];
-    let opened = lines::open(&mut page, name, expected);
-    let told = answers::put_project(
-        opened,
-        &mut page,
-        project::project(ledger, n, start, errors),
+    let r = results::steps::of_project(project::project(ledger, n, start, errors));
+    lines::answer(
+        name,
+        expected,
+        r.refusal,
+        r.place,
+        &[r.full, r.sampled, r.m],
     );
-    lines::close(told, &mut page);
 }
 
 // A level, and TE.
@@ -79,9 +78,7 @@ pub fn judge(
     start: u64,
     errors: &[u64],
 ) {
-    let mut page = [0u8; 200];
-    let opened = lines::open(&mut page, name, expected);
-    let answer = judge::judge(aim.level, ledger, n, start, errors, aim.te);
-    let told = answers::put_judge(opened, &mut page, answer);
-    lines::close(told, &mut page);
+    let r = results::steps::of_judge(judge::judge(aim.level, ledger, n, start, errors, aim.te));
+    let figures = [r.full, r.sampled, r.m, r.precision, r.upper_limit];
+    lines::judgement(name, expected, r.refusal, r.place, &figures, r.verdict);
 }

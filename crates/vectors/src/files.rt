@@ -6,37 +6,40 @@ use crate::input::eight;
 use crate::input::four;
 use crate::input::on;
 use crate::lines;
+use crate::lines::Told;
 use crate::lists;
 use crate::rooms;
-use workfile::ReadAnswer;
-use workfile::WriteAnswer;
-
-fn tell_read(
-    number: u64,
-    answer: ReadAnswer,
-    file: &[u8],
-    words: &[u64],
-    values: &[u64],
-    errors: &[u64],
-) {
-    let mut page = [0u8; lines::PAGE];
-    let opened = lines::open(&mut page, number, b" read");
-    let answered = answers::put_read(opened, &mut page, answer);
-    let lent = answered.text(&mut page, b" lent");
-    let first = lines::more_bytes(&mut page, lent, file);
-    let second = lines::more_numbers(&mut page, first, words);
-    let third = lines::more_numbers(&mut page, second, values);
-    let fourth = lines::more_numbers(&mut page, third, errors);
-    lines::close(&mut page, fourth);
-}
+use results::ReadResult;
+use results::WriteResult;
 
 // The file is read into rooms that hold what they hold before every call.
-fn read_into(number: u64, file: &[u8], words: &mut [u64], values: &mut [u64], errors: &mut [u64]) {
+fn read_result(
+    file: &[u8],
+    words: &mut [u64],
+    values: &mut [u64],
+    errors: &mut [u64],
+) -> ReadResult {
     rooms::fill_numbers(words);
     rooms::fill_numbers(values);
     rooms::fill_numbers(errors);
-    let answer = reader::read(file, words, values, errors);
-    tell_read(number, answer, file, words, values, errors);
+    results::file::of_read(reader::read(file, words, values, errors))
+}
+
+fn read_into(number: u64, file: &[u8], words: &mut [u64], values: &mut [u64], errors: &mut [u64]) {
+    let r = read_result(file, words, values, errors);
+    let told = Told {
+        refusal: r.refusal,
+        place: r.place,
+        verdict: 0,
+    };
+    let figures = [r.level, r.te, r.ae, r.words, r.lines];
+    let digests = [
+        rooms::digest_bytes(file),
+        rooms::digest_numbers(words),
+        rooms::digest_numbers(values),
+        rooms::digest_numbers(errors),
+    ];
+    lines::tell_lent(number, b" read", told, &figures, &digests);
 }
 
 // The rooms of a read, whose lengths stand after its file.
@@ -78,24 +81,6 @@ pub fn read(
     on(input, after, 12)
 }
 
-fn tell_write(
-    number: u64,
-    answer: WriteAnswer,
-    words: &[u64],
-    values: &[u64],
-    errors: &[u64],
-    out: &[u8],
-) {
-    let mut page = [0u8; lines::PAGE];
-    let opened = lines::open(&mut page, number, b" write");
-    let answered = answers::put_write(opened, &mut page, answer);
-    let first = lines::lent(&mut page, answered, words);
-    let second = lines::more_numbers(&mut page, first, values);
-    let third = lines::more_numbers(&mut page, second, errors);
-    let fourth = lines::more_bytes(&mut page, third, out);
-    lines::close(&mut page, fourth);
-}
-
 // The three lists of a write, one after the other.
 fn fill_three(input: &[u8], at: usize, words: &mut [u64], values: &mut [u64], errors: &mut [u64]) {
     let value_list = lists::end(input, at);
@@ -105,19 +90,19 @@ fn fill_three(input: &[u8], at: usize, words: &mut [u64], values: &mut [u64], er
 }
 
 // The plan of a write stands at a place, and is written with its lists.
-fn write_out(
+fn write_result(
     input: &[u8],
     at: usize,
     words: &[u64],
     values: &[u64],
     errors: &[u64],
     out: &mut [u8],
-) -> WriteAnswer {
+) -> WriteResult {
     let level = byte_at(input, at);
     let te = eight(input, on(input, at, 1));
     let ae = eight(input, on(input, at, 9));
     rooms::fill_bytes(out);
-    writer::write(level, te, ae, words, values, errors, out)
+    results::file::of_write(writer::write(level, te, ae, words, values, errors, out))
 }
 
 fn write_on(
@@ -130,8 +115,20 @@ fn write_on(
     out: &mut [u8],
 ) {
     fill_three(input, on(input, at, 17), words, values, errors);
-    let answer = write_out(input, at, words, values, errors, out);
-    tell_write(number, answer, words, values, errors, out);
+    let r = write_result(input, at, words, values, errors, out);
+    let told = Told {
+        refusal: r.refusal,
+        place: r.place,
+        verdict: 0,
+    };
+    let figures = [r.length];
+    let digests = [
+        rooms::digest_numbers(words),
+        rooms::digest_numbers(values),
+        rooms::digest_numbers(errors),
+        rooms::digest_bytes(out),
+    ];
+    lines::tell_lent(number, b" write", told, &figures, &digests);
 }
 
 pub fn write(

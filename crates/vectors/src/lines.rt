@@ -1,17 +1,23 @@
 // A line of the output: the number of the case and the operation's name, the answer, the digests of what was lent.
-use crate::rooms;
 use pen::Pen;
 
-pub const PAGE: usize = 256;
+// A refusal's number and place, or 0 and 0; and a verdict's number, 0 where there is none.
+pub struct Told {
+    pub refusal: u64,
+    pub place: u64,
+    pub verdict: u64,
+}
 
-pub fn open(page: &mut [u8], number: u64, name: &[u8]) -> Pen {
+fn answered(page: &mut [u8], number: u64, name: &[u8], told: Told, figures: &[u64]) -> Pen {
     let start = Pen { at: 0 };
     let numbered = start.number(page, number);
-    numbered.text(page, name)
+    let named = numbered.text(page, name);
+    let put = answers::put_answer(named, page, told.refusal, told.place, figures);
+    answers::put_verdict(put, page, told.verdict)
 }
 
 // Ends the line and writes it.
-pub fn close(page: &mut [u8], pen: Pen) {
+fn close(page: &mut [u8], pen: Pen) {
     let ended = pen.byte(page, 10);
     let length = ended.at;
     if length <= page.len() {
@@ -19,16 +25,18 @@ pub fn close(page: &mut [u8], pen: Pen) {
     }
 }
 
-// " lent" and the digest of a list of numbers.
-pub fn lent(page: &mut [u8], pen: Pen, list: &[u64]) -> Pen {
-    let opened = pen.text(page, b" lent");
-    opened.field(page, rooms::digest_numbers(list))
+// The line of an answer.
+pub fn tell(number: u64, name: &[u8], told: Told, figures: &[u64]) {
+    let mut page = [0u8; 256];
+    let put = answered(&mut page, number, name, told, figures);
+    close(&mut page, put);
 }
 
-pub fn more_numbers(page: &mut [u8], pen: Pen, list: &[u64]) -> Pen {
-    pen.field(page, rooms::digest_numbers(list))
-}
-
-pub fn more_bytes(page: &mut [u8], pen: Pen, list: &[u8]) -> Pen {
-    pen.field(page, rooms::digest_bytes(list))
+// The same with " lent" and the digests of what was lent.
+pub fn tell_lent(number: u64, name: &[u8], told: Told, figures: &[u64], digests: &[u64]) {
+    let mut page = [0u8; 256];
+    let put = answered(&mut page, number, name, told, figures);
+    let lent = put.text(&mut page, b" lent");
+    let all = lent.fields(&mut page, digests);
+    close(&mut page, all);
 }

@@ -4,40 +4,43 @@ use crate::input::eight;
 use crate::input::four;
 use crate::input::on;
 use crate::lines;
+use crate::lines::Told;
 use crate::lists;
 use crate::rooms;
-use draw::DrawAnswer;
-use judge::JudgeAnswer;
-use project::ProjectAnswer;
-use split::SplitAnswer;
-use start::StartAnswer;
 
 pub fn size(input: &[u8], at: usize, number: u64) -> usize {
     let level = byte_at(input, at);
     let total = eight(input, on(input, at, 1));
     let te = eight(input, on(input, at, 9));
     let ae = eight(input, on(input, at, 17));
-    let mut page = [0u8; lines::PAGE];
-    let opened = lines::open(&mut page, number, b" size");
-    let answered = answers::put_size(opened, &mut page, size::size(level, total, te, ae));
-    lines::close(&mut page, answered);
+    let r = results::steps::of_size(size::size(level, total, te, ae));
+    let told = Told {
+        refusal: r.refusal,
+        place: r.place,
+        verdict: 0,
+    };
+    lines::tell(number, b" size", told, &[r.draws]);
     on(input, at, 25)
-}
-
-fn tell_split(number: u64, answer: SplitAnswer, ledger: &[u64], marks: &[u8]) {
-    let mut page = [0u8; lines::PAGE];
-    let opened = lines::open(&mut page, number, b" split");
-    let answered = answers::put_split(opened, &mut page, answer);
-    let once = lines::lent(&mut page, answered, ledger);
-    let twice = lines::more_bytes(&mut page, once, marks);
-    lines::close(&mut page, twice);
 }
 
 fn split_on(input: &[u8], at: usize, number: u64, n: u64, ledger: &mut [u64], marks: &mut [u8]) {
     lists::fill(input, at, ledger);
     rooms::fill_bytes(marks);
-    let answer = split::split(ledger, n, marks);
-    tell_split(number, answer, ledger, marks);
+    let r = results::steps::of_split(split::split(ledger, n, marks));
+    let told = Told {
+        refusal: r.refusal,
+        place: r.place,
+        verdict: 0,
+    };
+    let figures = [
+        r.interval,
+        r.draws_left,
+        r.sampled_total,
+        r.full_lines,
+        r.full_total,
+    ];
+    let digests = [rooms::digest_numbers(ledger), rooms::digest_bytes(marks)];
+    lines::tell_lent(number, b" split", told, &figures, &digests);
 }
 
 pub fn split(input: &[u8], at: usize, number: u64, ledger: &mut [u64], marks: &mut [u8]) -> usize {
@@ -56,21 +59,20 @@ pub fn split(input: &[u8], at: usize, number: u64, ledger: &mut [u64], marks: &m
     on(input, after, 12)
 }
 
-fn tell_start(number: u64, answer: StartAnswer, words: &[u64]) {
-    let mut page = [0u8; lines::PAGE];
-    let opened = lines::open(&mut page, number, b" start");
-    let answered = answers::put_start(opened, &mut page, answer);
-    let once = lines::lent(&mut page, answered, words);
-    lines::close(&mut page, once);
-}
-
 pub fn start(input: &[u8], at: usize, number: u64, words: &mut [u64]) -> usize {
     let interval = eight(input, at);
     let list = on(input, at, 8);
     let count = lists::count(input, list, words.len());
     lists::fill(input, list, &mut words[..count]);
-    let answer = start::start(interval, &words[..count]);
-    tell_start(number, answer, &words[..count]);
+    let r = results::steps::of_start(start::start(interval, &words[..count]));
+    let told = Told {
+        refusal: r.refusal,
+        place: r.place,
+        verdict: 0,
+    };
+    let figures = [r.start, r.words];
+    let digests = [rooms::digest_numbers(&words[..count])];
+    lines::tell_lent(number, b" start", told, &figures, &digests);
     lists::end(input, list)
 }
 
@@ -82,20 +84,18 @@ struct Drawing {
     start: u64,
 }
 
-fn tell_draw(number: u64, answer: DrawAnswer, ledger: &[u64], marks: &[u8]) {
-    let mut page = [0u8; lines::PAGE];
-    let opened = lines::open(&mut page, number, b" draw");
-    let answered = answers::put_draw(opened, &mut page, answer);
-    let once = lines::lent(&mut page, answered, ledger);
-    let twice = lines::more_bytes(&mut page, once, marks);
-    lines::close(&mut page, twice);
-}
-
 fn draw_on(input: &[u8], drawing: Drawing, ledger: &mut [u64], marks: &mut [u8]) {
     lists::fill(input, drawing.at, ledger);
     rooms::fill_bytes(marks);
-    let answer = draw::draw(ledger, drawing.n, drawing.start, marks);
-    tell_draw(drawing.number, answer, ledger, marks);
+    let r = results::steps::of_draw(draw::draw(ledger, drawing.n, drawing.start, marks));
+    let told = Told {
+        refusal: r.refusal,
+        place: r.place,
+        verdict: 0,
+    };
+    let figures = [r.drawn];
+    let digests = [rooms::digest_numbers(ledger), rooms::digest_bytes(marks)];
+    lines::tell_lent(drawing.number, b" draw", told, &figures, &digests);
 }
 
 pub fn draw(input: &[u8], at: usize, number: u64, ledger: &mut [u64], marks: &mut [u8]) -> usize {
@@ -112,20 +112,18 @@ pub fn draw(input: &[u8], at: usize, number: u64, ledger: &mut [u64], marks: &mu
     on(input, after, 20)
 }
 
-fn tell_project(number: u64, answer: ProjectAnswer, ledger: &[u64], errors: &[u64]) {
-    let mut page = [0u8; lines::PAGE];
-    let opened = lines::open(&mut page, number, b" project");
-    let answered = answers::put_project(opened, &mut page, answer);
-    let once = lines::lent(&mut page, answered, ledger);
-    let twice = lines::more_numbers(&mut page, once, errors);
-    lines::close(&mut page, twice);
-}
-
 fn project_on(input: &[u8], drawing: Drawing, ledger: &mut [u64], errors: &mut [u64]) {
     lists::fill(input, drawing.at, ledger);
     lists::fill(input, lists::end(input, drawing.at), errors);
-    let answer = project::project(ledger, drawing.n, drawing.start, errors);
-    tell_project(drawing.number, answer, ledger, errors);
+    let r = results::steps::of_project(project::project(ledger, drawing.n, drawing.start, errors));
+    let told = Told {
+        refusal: r.refusal,
+        place: r.place,
+        verdict: 0,
+    };
+    let figures = [r.full, r.sampled, r.m];
+    let digests = [rooms::digest_numbers(ledger), rooms::digest_numbers(errors)];
+    lines::tell_lent(drawing.number, b" project", told, &figures, &digests);
 }
 
 pub fn project(
@@ -156,28 +154,26 @@ struct Judging {
     te: u64,
 }
 
-fn tell_judge(number: u64, answer: JudgeAnswer, ledger: &[u64], errors: &[u64]) {
-    let mut page = [0u8; lines::PAGE];
-    let opened = lines::open(&mut page, number, b" judge");
-    let answered = answers::put_judge(opened, &mut page, answer);
-    let once = lines::lent(&mut page, answered, ledger);
-    let twice = lines::more_numbers(&mut page, once, errors);
-    lines::close(&mut page, twice);
-}
-
 fn judge_on(input: &[u8], judging: Judging, ledger: &mut [u64], errors: &mut [u64]) {
     let drawing = judging.drawing;
     lists::fill(input, drawing.at, ledger);
     lists::fill(input, lists::end(input, drawing.at), errors);
-    let answer = judge::judge(
+    let r = results::steps::of_judge(judge::judge(
         judging.level,
         ledger,
         drawing.n,
         drawing.start,
         errors,
         judging.te,
-    );
-    tell_judge(drawing.number, answer, ledger, errors);
+    ));
+    let told = Told {
+        refusal: r.refusal,
+        place: r.place,
+        verdict: r.verdict,
+    };
+    let figures = [r.full, r.sampled, r.m, r.precision, r.upper_limit];
+    let digests = [rooms::digest_numbers(ledger), rooms::digest_numbers(errors)];
+    lines::tell_lent(drawing.number, b" judge", told, &figures, &digests);
 }
 
 pub fn judge(

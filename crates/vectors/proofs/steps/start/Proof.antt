@@ -32,14 +32,29 @@ slice-aggregate-start c = sym (length-take-le _ _ (slice-reshare-prefix-start (c
 start-requires : tie.Need-start-requires
 start-requires c κs = search needs
 
-slice-reshare-prefix-tell-start : tie.Need-slice-reshare-prefix-tell-start
-slice-reshare-prefix-tell-start c = search needs
+of-start-requires : tie.Need-of-start-requires
+of-start-requires c κs = search needs
 
-slice-aggregate-tell-start : tie.Need-slice-aggregate-tell-start
-slice-aggregate-tell-start c = sym (length-take-le _ _ (slice-reshare-prefix-tell-start (c .before)))
+slice-reshare-prefix-digest-numbers : tie.Need-slice-reshare-prefix-digest-numbers
+slice-reshare-prefix-digest-numbers c = search needs
 
-tell-start-requires : tie.Need-tell-start-requires
-tell-start-requires c κs = search needs
+slice-aggregate-digest-numbers : tie.Need-slice-aggregate-digest-numbers
+slice-aggregate-digest-numbers c = sym (length-take-le _ _ (slice-reshare-prefix-digest-numbers (c .before)))
+
+digest-numbers-requires : tie.Need-digest-numbers-requires
+digest-numbers-requires c κs = search needs
+
+slice-aggregate-tell-lent : tie.Need-slice-aggregate-tell-lent
+slice-aggregate-tell-lent c = search needs
+
+slice-aggregate-tell-lent-2 : tie.Need-slice-aggregate-tell-lent-2
+slice-aggregate-tell-lent-2 c = search needs
+
+slice-aggregate-tell-lent-3 : tie.Need-slice-aggregate-tell-lent-3
+slice-aggregate-tell-lent-3 c = search needs
+
+tell-lent-requires : tie.Need-tell-lent-requires
+tell-lent-requires c κs = search needs
 
 end-requires : tie.Need-end-requires
 end-requires c κs = search needs
@@ -63,9 +78,14 @@ start-spec =
     slice-reshare-prefix-start
     slice-aggregate-start
     start-requires
-    slice-reshare-prefix-tell-start
-    slice-aggregate-tell-start
-    tell-start-requires
+    of-start-requires
+    slice-reshare-prefix-digest-numbers
+    slice-aggregate-digest-numbers
+    digest-numbers-requires
+    slice-aggregate-tell-lent
+    slice-aggregate-tell-lent-2
+    slice-aggregate-tell-lent-3
+    tell-lent-requires
     end-requires
     same-length
     returns)

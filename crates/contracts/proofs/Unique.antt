@@ -1,8 +1,6 @@
 -- The contracts leave no freedom: any two results that meet one agree. Assumes nothing.
-use mathlib.Core.Path.{_≡_, refl, sym, ap, _∙_}
-use Rattle.terms.specs.declared.Refusal.{Refusal}
-use Rattle.terms.specs.Outcome.{Outcome, accepted, refusedBy}
-use Rattle.terms.proofs.Outcomes.{never, refused-once}
+use mathlib.Core.Path.{refl, sym, _∙_}
+use Rattle.terms.proofs.Answers.{Made, good, bad, one-answer}
 use Rattle.factors.specs.declared.LevelAnswer.{LevelAnswer}
 use Rattle.factors.specs.declared.LevelAnswer.the-variants as level
 use Rattle.factors.specs.Levels.{levelSays}
@@ -28,27 +26,8 @@ use Rattle.judge.specs.declared.JudgeAnswer.{JudgeAnswer}
 use Rattle.judge.specs.declared.JudgeAnswer.the-variants as judge
 use Rattle.judge.specs.Judge.{judgeSays}
 use Rattle.workfile.proofs.Promises.{read-once, write-once}
+use Rattle.steps.proofs.Laws.{steps-once}
 use Rattle.contracts.specs.Unique.{NoFreedom}
-
--- an answer holds what was accepted, or a refusal
-data Made {A R : Type 0} (value : A → R) (refusal : Refusal → R) : R → Type 0 where
-  good : (a : A) → Made value refusal (value a)
-  bad : (why : Refusal) → Made value refusal (refusal why)
-
--- an outcome is said by one answer
-module _ {A R : Type 0} (says : R → Outcome A) (value : A → R) (refusal : Refusal → R) (says-value : (a : A) → says (value a) ≡ accepted a)
-    (says-refusal : (why : Refusal) → says (refusal why) ≡ refusedBy why) (made : (r : R) → Made value refusal r) where
-  by-made : (r s : R) → Made value refusal r → Made value refusal s → says r ≡ says s → r ≡ s
-  by-made _ _ (good a) (good b) e =
-      let same : _≡_ {A = Outcome A} (accepted a) (accepted b) = sym (says-value a) ∙ e ∙ says-value b in
-      let inner : a ≡ b = cc in
-      ap value inner
-  by-made _ _ (good a) (bad y) e = never (sym (says-refusal y) ∙ sym e ∙ says-value a)
-  by-made _ _ (bad x) (good b) e = never (sym (says-refusal x) ∙ e ∙ says-value b)
-  by-made _ _ (bad x) (bad y) e = ap refusal (refused-once x y (sym (says-refusal x) ∙ e ∙ says-refusal y))
-
-  one-answer : {o : Outcome A} (r s : R) → says r ≡ o → says s ≡ o → r ≡ s
-  one-answer r s p q = by-made r s (made r) (made s) (p ∙ sym q)
 
 -- the answers of the steps
 level-made : (r : LevelAnswer) → Made level.Known level.Refused r
@@ -96,6 +75,7 @@ no-freedom =
       draw = λ _ _ _ _ r s _ _ p q. (one-answer drawSays draw.Drawn draw.Refused (λ a. refl) (λ why. refl) draw-made r s (p .answer) (q .answer), p .marked ∙ sym (q .marked));
       project = λ _ _ _ _ r s p q. one-answer projectSays project.Projected project.Refused (λ a. refl) (λ why. refl) project-made r s (p .answer) (q .answer);
       judge = λ _ _ _ _ _ _ r s p q. one-answer judgeSays judge.Judged judge.Refused (λ a. refl) (λ why. refl) judge-made r s (p .answer) (q .answer);
+      steps = λ plan words ledger errors r s p q. steps-once plan words ledger errors (p .answer) (q .answer);
       read = λ _ _ _ _ _ _ _ _ _ _ _ _ p q. read-once p q;
       write = λ _ _ _ _ _ _ _ _ _ p q. write-once p q;
     }

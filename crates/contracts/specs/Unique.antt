@@ -23,6 +23,8 @@ use Rattle.project.specs.declared.ProjectAnswer.{ProjectAnswer}
 use Rattle.project.specs.Project.{projectSays, projectOf}
 use Rattle.judge.specs.declared.JudgeAnswer.{JudgeAnswer}
 use Rattle.judge.specs.Judge.{judgeSays, judgeOf}
+use Rattle.steps.specs.declared.StepsAnswer.{StepsAnswer}
+use Rattle.steps.specs.Steps.{stepsSays, stepsOf}
 use Rattle.workfile.specs.declared.Plan.{Plan}
 use Rattle.workfile.specs.Promises.{ReadPromise, WritePromise}
 
@@ -59,6 +61,9 @@ pub record ProjectContract (ledger : List ℕ) (n start : ℕ) (errors : List �
 pub record JudgeContract (level : ℕ) (ledger : List ℕ) (n start : ℕ) (errors : List ℕ) (te : ℕ) (r : JudgeAnswer) : Type 0 where
   pub answer : judgeSays r ≡ judgeOf level ledger n start errors te
 
+pub record StepsContract (plan : Plan) (words ledger errors : List ℕ) (r : StepsAnswer) : Type 0 where
+  pub answer : stepsSays r ≡ stepsOf plan words ledger errors
+
 -- any two results that meet it agree: an answer alone, and an answer with one lent buffer or with three
 abbrev pub One : {R : Type 0} → (R → Type 0) → Type 0
 One {R} Meets = (r s : R) → Meets r → Meets s → r ≡ s
@@ -81,5 +86,6 @@ pub record NoFreedom : Type 0 where
   pub draw : (ledger : List ℕ) (n start : ℕ) (marks : List ℕ) → OneWith (DrawContract ledger n start marks)
   pub project : (ledger : List ℕ) (n start : ℕ) (errors : List ℕ) → One (ProjectContract ledger n start errors)
   pub judge : (level : ℕ) (ledger : List ℕ) (n start : ℕ) (errors : List ℕ) (te : ℕ) → One (JudgeContract level ledger n start errors te)
+  pub steps : (plan : Plan) (words ledger errors : List ℕ) → One (StepsContract plan words ledger errors)
   pub read : (file words values errors : List ℕ) → OneWithThree (ReadPromise file words values errors)
   pub write : (plan : Plan) (words values errors file : List ℕ) → OneWith (WritePromise plan words values errors file)

@@ -8,11 +8,13 @@ use project::ProjectAnswer;
 use size::SizeAnswer;
 use split::SplitAnswer;
 use start::StartAnswer;
+use steps::StepsAnswer;
 use terms::Refusal;
+use workfile::Plan;
 use workfile::ReadAnswer;
 use workfile::WriteAnswer;
 ghost use Rattle.workfile.specs.Promises.{planWith, ReadPromise, WritePromise};
-ghost use Rattle.contracts.specs.Unique.{NumberContract, PlaceContract, LevelContract, LedgerContract, SizeContract, SplitContract, StartContract, DrawContract, ProjectContract, JudgeContract};
+ghost use Rattle.contracts.specs.Unique.{NumberContract, PlaceContract, LevelContract, LedgerContract, SizeContract, SplitContract, StartContract, DrawContract, ProjectContract, JudgeContract, StepsContract};
 
 fn number_meets(refusal: Refusal) -> u64
     ensures { λ r. ⌜ NumberContract refusal r ⌝ }
@@ -79,6 +81,12 @@ fn judge_meets(
     ensures { λ r. ⌜ JudgeContract level (now (ledger .entry)) n start (now (errors .entry)) te r ⌝ }
 {
     judge::judge(level, ledger, n, start, errors, te)
+}
+
+fn steps_meets(plan: Plan, words: &[u64], ledger: &[u64], errors: &[u64]) -> StepsAnswer
+    ensures { λ r. ⌜ StepsContract plan (now (words .entry)) (now (ledger .entry)) (now (errors .entry)) r ⌝ }
+{
+    steps::steps(plan, words, ledger, errors)
 }
 
 fn read_meets(file: &[u8], words: &mut [u64], values: &mut [u64], errors: &mut [u64]) -> ReadAnswer

@@ -9,7 +9,8 @@ use borrow.Author.Tests.{eqb-true, eqb-false}
 use lib.Dec.{eqb}
 use lib.ListN.{length}
 use Rattle.terms.specs.Outcome.{Outcome, accepted, refused, after}
-use Rattle.terms.proofs.Outcomes.{never, refused-once, Gives, gives-after, gives-among}
+use Rattle.terms.proofs.Answers.{Made, good, bad, one-answer}
+use Rattle.terms.proofs.Outcomes.{Gives, gives-after, gives-among}
 use Rattle.terms.proofs.Tests.{by-test, le-or-lt}
 use Rattle.factors.specs.Levels.{levelOf}
 use Rattle.factors.proofs.Percents.{level-gives}
@@ -38,16 +39,13 @@ use Rattle.steps.specs.declared.StepsAnswer.{StepsAnswer}
 use Rattle.steps.specs.declared.StepsAnswer.the-variants.{Answered, Refused}
 use Rattle.steps.specs.Steps.{stepsSays, plannedWith, answersWith, judgedFrom, startedFrom, splitFrom, sizedFrom, totalledFrom, stepsOf}
 
--- an outcome is said by one answer
-one-answer : (r q : StepsAnswer) → stepsSays r ≡ stepsSays q → r ≡ q
-one-answer (Answered a) (Answered b) e = cc
-one-answer (Answered a) (Refused y) e = never (sym e)
-one-answer (Refused x) (Answered b) e = never e
-one-answer (Refused x) (Refused y) e = ap Refused (refused-once x y e)
+made : (r : StepsAnswer) → Made Answered Refused r
+made (Answered a) = good a
+made (Refused why) = bad why
 
 pub steps-once : (plan : Plan) (words ledger errors : List ℕ) {r₁ r₂ : StepsAnswer} → stepsSays r₁ ≡ stepsOf plan words ledger errors →
     stepsSays r₂ ≡ stepsOf plan words ledger errors → r₁ ≡ r₂
-steps-once plan words ledger errors {r₁} {r₂} p q = one-answer r₁ r₂ (p ∙ sym q)
+steps-once plan words ledger errors {r₁} {r₂} p q = one-answer stepsSays Answered Refused (λ a. refl) (λ why. refl) made r₁ r₂ p q
 
 -- a step that starts with another gives what either gives, the second from what the first has accepted
 gives-then : {A B : Type 0} (numbers : List ℕ) (next : A → Outcome B) (o : Outcome A) → Gives numbers o → ((a : A) → o ≡ accepted a → Gives numbers (next a)) →

@@ -1,14 +1,14 @@
 // A case of a read and of a write: it lends what the input gives, calls the operation and writes the line. Each answers the place of
 // the next case.
-use crate::bytes;
-use crate::input::byte_at;
-use crate::input::eight;
-use crate::input::four;
-use crate::input::on;
-use crate::lines;
-use crate::lines::Told;
-use crate::lists;
-use crate::rooms;
+use feed::bytes;
+use feed::input::byte_at;
+use feed::input::eight;
+use feed::input::four;
+use feed::input::on;
+use feed::lines;
+use feed::lines::Told;
+use feed::lists;
+use feed::rooms;
 use results::ReadResult;
 use results::WriteResult;
 

@@ -1,11 +1,6 @@
 // Runs every operation on the cases of standard input and writes a line for each: the answer, and a digest of every lent list.
 // The form of the cases is told in docs/VECTORS.md.
-mod bytes; // bytes.rt: files of the input
 mod files; // files.rt: cases of the working file
-mod input; // input.rt: the input's bytes and numbers
-mod lines; // lines.rt: a line of the output
-mod lists; // lists.rt: lists of the input
-mod rooms; // rooms.rt: lent rooms and digests
 mod steps; // steps.rt: cases of steps 1 to 7
 
 // The most lines that a case lends.
@@ -21,8 +16,8 @@ fn step_case(
     words: &mut [u64],
     marks: &mut [u8],
 ) -> usize {
-    let fields = input::on(input, at, 1);
-    match input::byte_at(input, at) {
+    let fields = feed::input::on(input, at, 1);
+    match feed::input::byte_at(input, at) {
         1 => steps::size(input, fields, number),
         2 => steps::split(input, fields, number, ledger, marks),
         3 => steps::start(input, fields, number, words),
@@ -44,8 +39,8 @@ fn any_case(
     file: &mut [u8],
     out: &mut [u8],
 ) -> usize {
-    let fields = input::on(input, at, 1);
-    match input::byte_at(input, at) {
+    let fields = feed::input::on(input, at, 1);
+    match feed::input::byte_at(input, at) {
         7 => files::read(input, fields, number, out, file, words, ledger, errors),
         8 => files::write(input, fields, number, words, ledger, errors, out),
         _ => step_case(input, at, number, ledger, errors, words, marks),
@@ -65,7 +60,7 @@ fn run(
     let mut at: usize = 0;
     let mut number: usize = 0;
     while number < input.len() {
-        if input::byte_at(input, at) == 0 {
+        if feed::input::byte_at(input, at) == 0 {
             return;
         }
         at = any_case(

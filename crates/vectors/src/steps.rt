@@ -1,12 +1,12 @@
 // A case of each step: it lends what the input gives, calls the operation and writes the line. Each answers the place of the next case.
-use crate::input::byte_at;
-use crate::input::eight;
-use crate::input::four;
-use crate::input::on;
-use crate::lines;
-use crate::lines::Told;
-use crate::lists;
-use crate::rooms;
+use feed::input::byte_at;
+use feed::input::eight;
+use feed::input::four;
+use feed::input::on;
+use feed::lines;
+use feed::lines::Told;
+use feed::lists;
+use feed::rooms;
 
 pub fn size(input: &[u8], at: usize, number: u64) -> usize {
     let level = byte_at(input, at);

@@ -1,7 +1,7 @@
 -- What follows from the promises: they leave no freedom, and the theorems of the file hold of the reader's and the writer's results.
 -- Assumes nothing.
 use Prim.Native.Nat.{ℕ, _<_, _≤_}
-use mathlib.Core.Path.{_≡_, ap, sym, _∙_}
+use mathlib.Core.Path.{_≡_, refl, ap, sym, _∙_}
 use mathlib.Core.List.{List}
 use lib.Dec.{eqb, ltb}
 use borrow.Author.Tests.{eqb-true, ltb-true, leb-true, lt-ltb, le-ltb, le-leb, eq-eqb}
@@ -9,7 +9,8 @@ use lib.ListN.{length, take, drop}
 use lib.Seq.{take-at}
 use Rattle.terms.specs.Outcome.{Outcome, accepted, refused, after, left}
 use Rattle.terms.specs.Numbers.{sum}
-use Rattle.terms.proofs.Outcomes.{never, after-accepted, refused-once}
+use Rattle.terms.proofs.Answers.{Made, good, bad, one-answer}
+use Rattle.terms.proofs.Outcomes.{never, after-accepted}
 use Rattle.terms.proofs.Tests.{by-test}
 use Rattle.workfile.specs.Numbers.{Bytes}
 use Rattle.workfile.specs.Content.{Content, mostWords, mostFileLines, sumBound, encode}
@@ -26,27 +27,22 @@ use Rattle.workfile.proofs.OneFile.{Counts, one-file, no-second-file, r
 use Rattle.workfile.proofs.RoundTrip.{Fit, round-trip}
 use Rattle.workfile.proofs.Longest.{first-decide}
 
--- an outcome is said by one answer
-read-answer : (r q : ReadAnswer) → readSays r ≡ readSays q → r ≡ q
-read-answer (read.Read a) (read.Read b) e = cc
-read-answer (read.Read a) (read.Refused y) e = never (sym e)
-read-answer (read.Refused x) (read.Read b) e = never e
-read-answer (read.Refused x) (read.Refused y) e = ap read.Refused (refused-once x y e)
+read-made : (r : ReadAnswer) → Made read.Read read.Refused r
+read-made (read.Read a) = good a
+read-made (read.Refused why) = bad why
 
-write-answer : (r q : WriteAnswer) → writeSays r ≡ writeSays q → r ≡ q
-write-answer (write.Written a) (write.Written b) e = cc
-write-answer (write.Written a) (write.Refused y) e = never (sym e)
-write-answer (write.Refused x) (write.Written b) e = never e
-write-answer (write.Refused x) (write.Refused y) e = ap write.Refused (refused-once x y e)
+write-made : (r : WriteAnswer) → Made write.Written write.Refused r
+write-made (write.Written a) = good a
+write-made (write.Refused why) = bad why
 
 -- any two results that meet a promise agree
 pub read-once : {f w v e w₁ v₁ e₁ w₂ v₂ e₂ : List ℕ} {r₁ r₂ : ReadAnswer} → ReadPromise f w v e r₁ w₁ v₁ e₁ → ReadPromise f w v e r₂ w₂ v₂ e₂
     → (r₁ ≡ r₂) × (w₁ ≡ w₂) × (v₁ ≡ v₂) × (e₁ ≡ e₂)
 read-once {r₁} {r₂} p q =
-    (read-answer r₁ r₂ (p .answer ∙ sym (q .answer)), p .words-left ∙ sym (q .words-left), p .values-left ∙ sym (q .values-left), p .errors-left ∙ sym (q .errors-left))
+    (one-answer readSays read.Read read.Refused (λ a. refl) (λ why. refl) read-made r₁ r₂ (p .answer) (q .answer), p .words-left ∙ sym (q .words-left), p .values-left ∙ sym (q .values-left), p .errors-left ∙ sym (q .errors-left))
 
 pub write-once : {plan : Plan} {w v e f f₁ f₂ : List ℕ} {r₁ r₂ : WriteAnswer} → WritePromise plan w v e f r₁ f₁ → WritePromise plan w v e f r₂ f₂ → (r₁ ≡ r₂) × (f₁ ≡ f₂)
-write-once {r₁} {r₂} p q = (write-answer r₁ r₂ (p .answer ∙ sym (q .answer)), p .file-left ∙ sym (q .file-left))
+write-once {r₁} {r₂} p q = (one-answer writeSays write.Written write.Refused (λ a. refl) (λ why. refl) write-made r₁ r₂ (p .answer) (q .answer), p .file-left ∙ sym (q .file-left))
 
 -- the room comes first
 pub short-words : (f : List ℕ) (w v e : ℕ) → w < mostWords → readOf f w v e ≡ refused 18 mostWords

@@ -1,4 +1,4 @@
--- The numbers of a file as the reader adds them up, and the record at a place by its kind and the bytes left. Assumes nothing.
+-- The numbers of a file as sums of their bytes, and the record at a place by its kind and the bytes left. Assumes nothing.
 use Prim.Native.Nat.{ℕ, _+_, _-_, _*_, _<_, _≤_}
 use mathlib.Core.Path.{_≡_, refl, ap, ap₂, sym, _∙_}
 use mathlib.Core.Bool.{Bool, true, false}
@@ -9,18 +9,24 @@ use lib.ListN.{length, getD, drop, length-drop}
 use lib.Seq.{drop-drop, getD-drop}
 use borrow.Author.Tests.{le-leb, lt-leb, ne-eqb}
 use Rattle.terms.specs.Numbers.{pick}
 use Rattle.workfile.specs.Numbers.{littleEndian}
-use Rattle.workfile.specs.Decode.{recordOf}
+use Rattle.workfile.specs.Decode.{recordOf, recordAt}
 use Rattle.workfile.specs.declared.FileRecord.the-variants.{Word, Value, ErrorOf, End, Nothing}
-use Rattle.records.specs.Judging.{recordAt}
 
-pub of-four : (f : List ℕ) (at : ℕ) → littleEndian 4 (drop at f) ≡ getD f at 0 + 0x100 * getD f (at + 1) 0 + 0x10000 * getD f (at + 2) 0 + 0x1000000 * getD f (at + 3) 0
+of-four : (f : List ℕ) (at : ℕ) → littleEndian 4 (drop at f) ≡ getD f at 0 + 0x100 * getD f (at + 1) 0 + 0x10000 * getD f (at + 2) 0 + 0x1000000 * getD f (at + 3) 0
 unfolding littleEndian
 of-four f at = simp (drop-drop, getD-drop, add-assoc, add-zero) (omega arith)
 
-pub of-eight : (f : List ℕ) (at : ℕ) → littleEndian 8 (drop at f) ≡ littleEndian 4 (drop at f) + 0x100000000 * littleEndian 4 (drop (at + 4) f)
+of-eight : (f : List ℕ) (at : ℕ) → littleEndian 8 (drop at f) ≡ littleEndian 4 (drop at f) + 0x100000000 * littleEndian 4 (drop (at + 4) f)
 unfolding littleEndian
 of-eight f at = simp (drop-drop, add-assoc) (omega arith)
+
+pub four-bytes : (f : List ℕ) (at : ℕ) {a b c d : ℕ} → a ≡ getD f at 0 → b ≡ getD f (at + 1) 0 → c ≡ getD f (at + 2) 0 → d ≡ getD f (at + 3) 0
+    → a + 0x100 * b + 0x10000 * c + 0x1000000 * d ≡ littleEndian 4 (drop at f)
+four-bytes f at p q r s = omega (arith, of-four f at)
+
+pub eight-bytes : (f : List ℕ) (at : ℕ) {low high : ℕ} → low ≡ littleEndian 4 (drop at f) → high ≡ littleEndian 4 (drop (at + 4) f) → low + 0x100000000 * high ≡ littleEndian 8 (drop at f)
+eight-bytes f at p q = omega (arith, of-eight f at)
 
 either-way : {A : Type 0} (b : Bool) (x : A) → pick b x x ≡ x
 either-way true x = refl

@@ -1,16 +1,14 @@
-"""The cases: legal ones, each refusal, and the edge values of every limit."""
+"""The cases: legal ones, each refusal, and the edge values of every limit. A new case stands last, so that no number moves."""
 
 import reference
 import self_test
 from reference import EF, MOST_INTERVAL, MOST_TOTAL, MOST_VALUE, Refusal
 from seeded import Seeded
-from vector_forms import Draw, Equal, Generated, Given, Judge, Listed, Project, Read, Size, Split, Start, Write, Written
-from vector_forms import given
+from vector_files import read_cases, stored_reads, write_cases
+from vector_forms import MOST_WORD, Draw, Generated, Judge, Project, Size, Split, Start, equal, listed
 
 # Ledgers of more lines than this are left out, for a program with less room.
 LARGEST_LEDGER = 100_000
-
-MOST_WORD = 2**64 - 1
 
 
 # ---- Size ----
@@ -48,7 +46,7 @@ def size_edges(level):
 
 
 def random_ledger(r):
-    """A small legal ledger, given in the shorter way."""
+    """A small legal ledger."""
     most = r.one_of([1, 5, 60, 1_000, 10**6, 10**9, MOST_INTERVAL])
     if r.chance(50):
         changes = tuple((place, r.between(0, 9 * most)) for place in range(0, r.between(0, 4)))
@@ -56,7 +54,7 @@ def random_ledger(r):
     values = [r.between(0, most) for _ in range(r.between(1, 9))]
     for _ in range(r.between(0, 2)):
         values[r.below(len(values))] = r.one_of([0, r.between(0, 20 * most), values[0]])
-    return Listed(values)
+    return listed(values)
 
 
 def generated_ledger(r, count, most, changes=()):
@@ -83,9 +81,9 @@ def long_ledgers(r):
     for count, n in (1_000, 116), (3_000, 150), (10_000, 400), (100_000, 2_000):
         grants = tuple((r.below(count), r.between(10**6, 10**9)) for _ in range(40))
         yield Generated(count, r.below(2**32), 100, 50_000, 7, grants), n
-    yield Equal(2_000, 300), 1_999
-    yield Equal(2_000, 300), 2_000
-    yield Equal(2_000, 300), 2_001
+    yield equal(2_000, 300), 1_999
+    yield equal(2_000, 300), 2_000
+    yield equal(2_000, 300), 2_001
     yield Generated(2_000, 9, 0, 1, 1), 30
 
 
@@ -132,11 +130,11 @@ def broken_ledgers():
 
 def split_cases(r):
     for values, n in split_ledgers():
-        yield Split(given(values), n, len(values))
+        yield Split(listed(values), n, len(values))
     for values in broken_ledgers():
         for n in 0, 3:
-            yield Split(given(values), n, len(values))
-        yield Split(given(values), 3, len(values) + 1)
+            yield Split(listed(values), n, len(values))
+        yield Split(listed(values), 3, len(values) + 1)
     for ledger, n in long_ledgers(r):
         yield Split(ledger, n, ledger.count)
     for _ in range(600):
@@ -163,14 +161,14 @@ def starts_for(r, interval):
 
 def draw_cases(r):
     for first_point in range(42):
-        yield Draw(Listed([30, 30, 40, 20]), 3, first_point, 4)
+        yield Draw(listed([30, 30, 40, 20]), 3, first_point, 4)
     for values, n in split_ledgers():
         interval = interval_of(values, n)
         for first_point in sorted({0, max(1, interval) - 1, interval, MOST_WORD}):
-            yield Draw(given(values), n, first_point, len(values))
+            yield Draw(listed(values), n, first_point, len(values))
     for values in broken_ledgers():
-        yield Draw(given(values), 0, 7, len(values))
-        yield Draw(given(values), 3, 0, len(values) + 1)
+        yield Draw(listed(values), 0, 7, len(values))
+        yield Draw(listed(values), 3, 0, len(values) + 1)
     for ledger, n in long_ledgers(r):
         interval = interval_of(ledger.expand(), n)
         yield Draw(ledger, n, max(1, interval) - 1, ledger.count)
@@ -192,20 +190,20 @@ def draw_cases(r):
 def start_cases(r):
     for interval in 0, 1, 2, 3, 4, 5, 40, 63, 64, 65, 2**31, 2**31 + 1, 2**32 - 1, 2**32, 10**12, MOST_WORD:
         for words in [], [0], [MOST_WORD], [interval], [max(0, interval - 1)], [interval + 2**40], [63, 25]:
-            yield Start(interval, Listed([word % 2**64 for word in words]))
+            yield Start(interval, listed([word % 2**64 for word in words]))
     for interval in MOST_INTERVAL - 1, MOST_INTERVAL, MOST_INTERVAL + 1:
         for word in 0, interval - 1, interval, 2**32 - 1, 2**32 + interval - 1:
-            yield Start(interval, Listed([word]))
-            yield Start(interval, Listed([MOST_WORD, word]))
+            yield Start(interval, listed([word]))
+            yield Start(interval, listed([MOST_WORD, word]))
     for count in 1, 63, 64, 65, 1_000, 5_000:
-        yield Start(65, Equal(count, 127))  # none passes
-        yield Start(65, Equal(count, 127, ((count - 1, 64),)))  # the last passes
+        yield Start(65, equal(count, 127))  # none passes
+        yield Start(65, equal(count, 127, ((count - 1, 64),)))  # the last passes
     for _ in range(300):
         interval = r.one_of([2 ** r.between(1, 31) + r.between(0, 2), r.between(2, MOST_INTERVAL), r.between(2, 99)])
         bits = (interval - 1).bit_length()
         words = [r.below(2**64) for _ in range(r.between(0, 4))]
         rejected = [r.below(2**64) // 2**bits * 2**bits + 2**bits - 1 for _ in range(r.between(0, 3))]
-        yield Start(interval, Listed(rejected + words))
+        yield Start(interval, listed(rejected + words))
 
 
 # ---- Projection ----
@@ -257,17 +255,17 @@ def projected_edges(r):
     """The practice ledger at every start, the edges of the split, and broken ledgers."""
     for first_point in range(41):
         errors = self_test.errors_entered([30, 30, 40, 20], 3, first_point, [7, 0, 10, 5])
-        yield Listed([30, 30, 40, 20]), errors, 3, first_point
-    yield Listed([30, 30, 40, 20]), [7, 0, 10, 5], 3, 0
+        yield listed([30, 30, 40, 20]), errors, 3, first_point
+    yield listed([30, 30, 40, 20]), [7, 0, 10, 5], 3, 0
     for values, n in split_ledgers():
         for first_point in sorted({0, max(1, interval_of(values, n)) - 1}):
-            yield given(values), errors_found(r, values, n, first_point, 90)[0], n, first_point
+            yield listed(values), errors_found(r, values, n, first_point, 90)[0], n, first_point
     for values in broken_ledgers():
-        yield given(values), [MOST_WORD] * len(values), 0, 7
-        yield given(values), [0] * (len(values) + 1), 3, 0
+        yield listed(values), [MOST_WORD] * len(values), 0, 7
+        yield listed(values), [0] * (len(values) + 1), 3, 0
     whole = [MOST_INTERVAL, MOST_INTERVAL - 1, 1, MOST_INTERVAL]
-    yield Listed(whole), whole, 3, MOST_INTERVAL - 1
-    yield Listed(whole[:2] + whole[3:]), whole[:2] + whole[3:], 3, 0
+    yield listed(whole), whole, 3, MOST_INTERVAL - 1
+    yield listed(whole[:2] + whole[3:]), whole[:2] + whole[3:], 3, 0
 
 
 def long_errors(r):
@@ -276,19 +274,19 @@ def long_errors(r):
         values = ledger.expand()
         first_point = r.below(max(1, interval_of(values, n)))
         for share in 1, 5, 50 if ledger.count == 1_000 else 3:
-            yield ledger, given(errors_found(r, values, n, first_point, share)[0]), n, first_point
+            yield ledger, listed(errors_found(r, values, n, first_point, share)[0]), n, first_point
     for n in 1_999, 2_000, 2_001:
-        for errors in Generated(2_000, 4, 0, 300, 1), Equal(2_000, 300), Equal(2_000, 1, ((1_999, 301),)):
-            yield Equal(2_000, 300), errors, n, 0
+        for errors in Generated(2_000, 4, 0, 300, 1), equal(2_000, 300), equal(2_000, 1, ((1_999, 301),)):
+            yield equal(2_000, 300), errors, n, 0
 
 
 def project_cases(r):
     for ledger, errors, n, first_point in long_errors(r):
         yield Project(ledger, errors, n, first_point)
     for ledger, errors, n, first_point in projected_edges(r):
-        yield Project(ledger, given(errors), n, first_point)
+        yield Project(ledger, listed(errors), n, first_point)
     for ledger, errors, n, first_point in projected_cases(r, 450, 150):
-        yield Project(ledger, given(errors), n, first_point)
+        yield Project(ledger, listed(errors), n, first_point)
 
 
 # ---- Judgement ----
@@ -299,7 +297,7 @@ def every_factor():
     for level in EF:
         for m in range(65):
             errors = Generated(m + 1, 3 * m + level, 1, 900, 1, ((m, 0),))
-            yield Judge(level, Equal(m + 1, 1_000), errors, m + 1, level, 500 * (m + 1))
+            yield Judge(level, equal(m + 1, 1_000), errors, m + 1, level, 500 * (m + 1))
 
 
 def verdict_edges(level, ledger, errors, n, first_point):
@@ -316,16 +314,16 @@ def verdict_edges(level, ledger, errors, n, first_point):
 
 def judge_edges(r):
     for level in range(256):
-        yield Judge(level, Listed([30, 30, 40, 20]), Listed([7, 0, 10, 5]), 3, 25, 100)
+        yield Judge(level, listed([30, 30, 40, 20]), listed([7, 0, 10, 5]), 3, 25, 100)
     for te in 0, 1, 30, 58, 59, 119, 120, 121, MOST_WORD:
         for level in 50, 90, 94:
-            yield Judge(level, Listed([30, 30, 40, 20]), Listed([7, 0, 10, 5]), 3, 25, te)
+            yield Judge(level, listed([30, 30, 40, 20]), listed([7, 0, 10, 5]), 3, 25, te)
     for m in 63, 64, 65:
-        for ledger in Equal(m, 10), Equal(m + 1, 10, ((0, 1_000),)):
-            errors = Equal(ledger.count, 1)
+        for ledger in equal(m, 10), equal(m + 1, 10, ((0, 1_000),)):
+            errors = equal(ledger.count, 1)
             yield Judge(90, ledger, errors, ledger.count, 0, 20)
-        spoiled_last = Equal(m, 1, ((m - 1, 11),))
-        yield Judge(90, Equal(m, 10), spoiled_last, m, 0, 20)  # 14 before 16
+        spoiled_last = equal(m, 1, ((m - 1, 11),))
+        yield Judge(90, equal(m, 10), spoiled_last, m, 0, 20)  # 14 before 16
 
 
 def judge_cases(r):
@@ -335,145 +333,16 @@ def judge_cases(r):
         yield Judge(r.one_of(list(EF)), ledger, errors, n, first_point, sum(ledger.expand()) // 50)
     for ledger, errors, n, first_point in projected_edges(r):
         te = max(1, sum(ledger.expand()) // 50) % 2**64
-        yield Judge(r.one_of(list(EF)), ledger, given(errors), n, first_point, te)
+        yield Judge(r.one_of(list(EF)), ledger, listed(errors), n, first_point, te)
     for ledger, errors, n, first_point in projected_cases(r, 110, 120):
         level = r.one_of(list(EF))
         for te in verdict_edges(level, ledger, errors, n, first_point):
-            yield Judge(level, ledger, given(errors), n, first_point, te)
+            yield Judge(level, ledger, listed(errors), n, first_point, te)
     for _ in range(40):  # the first refusal wins
         ledger, values = legal_ledger(r)
-        errors = given([MOST_WORD] * r.one_of([len(values), len(values), 1 + len(values)]))
+        errors = listed([MOST_WORD] * r.one_of([len(values), len(values), 1 + len(values)]))
         te = r.one_of([0, 1, sum(values), sum(values) + 1])
         yield Judge(r.one_of([50, 99, 100]), ledger, errors, r.one_of([0, 1, 9]), r.one_of([0, MOST_WORD]), te)
-
-
-# ---- The working file ----
-
-PRACTICE = self_test.PRACTICE_FILE
-P = reference.record(b"P", (90, 1), (100, 8), (0, 8))
-
-
-def W(word):
-    return reference.record(b"W", (word, 8))
-
-
-def L(value):
-    return reference.record(b"L", (value, 8))
-
-
-def E(line, error):
-    return reference.record(b"E", (line, 4), (error, 8))
-
-
-def Z(count, total):
-    return reference.record(b"Z", (count, 4), (total, 8))
-
-
-def broken_files():
-    """Each rule broken once or twice, and files beside them that are legal."""
-    end = Z(2, 30)
-    lines = L(10) + L(20)
-    yield from (b"", P, Z(0, 0), P + Z(0, 0), P + P + Z(0, 0), W(1) + P + Z(0, 0), P + W(1) + Z(0, 0))
-    yield from (P + lines + end, P + lines + W(1) + end, P + lines + end + b"\x00", P + lines + end + end)
-    yield from (P + lines + P + end, P + W(1) + lines + b"X" + end, P + b"p" + end, bytes([0]) + P)
-    for record in E(0, 1), E(1, MOST_WORD), E(1, 0), E(2, 5), E(2**32 - 1, 5), E(0, 5) + E(0, 5), E(1, 5) + E(0, 5):
-        yield P + lines + record + end
-        yield P + W(3) + lines + record
-    yield from (P + lines + E(0, 1) + E(1, 1) + end, P + lines + E(1, 1) + L(5) + end, P + E(0, 1) + Z(0, 0))
-    yield from (P + lines + E(0, 1) + W(5) + end, P + end + lines, P + lines + E(0, 0) + E(0, 0) + end)
-    for count, total in (1, 30), (3, 30), (2, 29), (2, 31), (30, 2), (2, 30 + 2**32), (2 + 2**16, 30):
-        yield P + lines + Z(count, total)
-        yield P + lines + Z(count, total) + b"Z"
-    for extra in 0, 1:
-        yield P + L(MOST_WORD) + L(extra) + Z(2, MOST_WORD)
-        yield P + L(2**63) + L(2**63 - 1 + extra) + L(0) + Z(3, (MOST_WORD + extra) % 2**64)
-    for count in 63, 64, 65:
-        yield P + b"".join(W(word) for word in range(count)) + lines + end
-
-
-def practice_reads():
-    """The practice file: every prefix, every byte changed, bytes after it."""
-    yield Write(90, 100, 0, Listed([63, 25]), Listed([30, 30, 40, 20]), Listed([7, 0, 10, 5]), 200)
-    for count in range(len(PRACTICE) + 4):
-        yield Read(Written(count))
-    for place, byte in enumerate(PRACTICE):
-        for changed in sorted({(byte + 1) % 256, byte ^ 0x80, ord("E"), ord("L")} - {byte}):
-            yield Read(Written(len(PRACTICE), ((place, changed),)))
-
-
-def room_reads():
-    """Rooms too short, before any rule of the file."""
-    for words, values, errors in (64, 2_048, 2_048), (70, 2_049, 2_050), (63, 2_047, 2_047), (64, 2_047, 2_048):
-        yield Read(Given(PRACTICE), words, values, errors)
-    for words, values, errors in (64, 2_048, 2_047), (0, 0, 0), (64, 0, 0), (100, 3_000, 0), (63, 3_000, 3_000):
-        yield Read(Given(PRACTICE), words, values, errors)
-        yield Read(Given(b"damaged"), words, values, errors)
-
-
-def longest_reads(r):
-    """The longest file, and changes that make a record too many of it."""
-    words = Generated(64, 1, 0, 2**24 - 1, 2**32 - 1)
-    values, errors = Generated(2_048, 2, 1, 2**24 - 1, 9_999), Generated(2_048, 3, 1, 65_535, 1)
-    first_L, first_E, last_Z = 18 + 64 * 9, 18 + 64 * 9 + 2_048 * 9, 45_663 - 13
-    yield Write(99, 5, 6, words, values, errors, 45_662)
-    yield Write(99, 5, 6, words, values, errors, 45_700)
-    for count in 45_663, 45_664, 45_662, 45_650, 45_651, first_E, 40_000:
-        yield Read(Written(count))
-    changes = [(first_L, ord("W")), (first_E, ord("L")), (first_E + 13, ord("L")), (last_Z, ord("E"))]
-    changes += [(r.below(45_663), r.below(256)) for _ in range(20)]
-    for change in changes:
-        yield Read(Written(45_663, (change,)))
-
-
-def read_cases(r):
-    yield from practice_reads()
-    for file in broken_files():
-        yield Read(Given(file))
-    yield from room_reads()
-    yield from longest_reads(r)
-    for _ in range(150):
-        yield from random_write_and_reads(r)
-
-
-def random_content(r):
-    """Words, values and errors that a file can hold."""
-    words = [r.below(2 ** r.one_of([8, 64])) for _ in range(r.between(0, 3))]
-    values = [r.below(2 ** r.one_of([1, 8, 33, 60])) for _ in range(r.between(0, 6))]
-    errors = [r.one_of([0, 0, r.below(2 ** r.one_of([8, 64]))]) for _ in values]
-    return words, values, errors
-
-
-def random_write_and_reads(r):
-    """A write, the file read back, and the file read after changes."""
-    words, values, errors = random_content(r)
-    plan = r.below(256), r.below(2 ** r.one_of([8, 64])), r.below(2 ** r.one_of([8, 64]))
-    length = len(reference.encode(*plan, words, values, errors))
-    room = length + r.between(0, 20)
-    yield Write(*plan, Listed(words), Listed(values), given(errors), room)
-    yield Read(Written(length), 64 + r.between(0, 3), 2_048 + r.between(0, 9), 2_048 + r.between(0, 9))
-    yield Read(Written(r.between(0, room)))
-    changes = tuple((r.below(length), r.one_of([r.below(256), *b"PWLEZ"])) for _ in range(r.between(1, 3)))
-    yield Read(Written(length, changes))
-
-
-def write_cases(r):
-    zeros = [Equal(count) for count in range(3)]
-    for words, values, errors in (64, 2, 2), (65, 2, 2), (65, 2, 1), (0, 2, 1), (0, 0, 0), (0, 0, 1), (2, 0, 0):
-        for out in 0, 12, 31, 5_000:
-            yield Write(1, 2, 3, Generated(words, 1, 0, 255, 1), zeros[values], zeros[errors], out)
-    for count in 2_047, 2_048, 2_049:
-        for errors in count, count - 1, count + 1:
-            ledger = Generated(count, count, 5, 9_999, 3)
-            yield Write(7, 8, 9, Equal(64), ledger, Generated(errors, 1, 0, 1, 1), 46_000)
-    for values in [MOST_WORD], [MOST_WORD, 0], [MOST_WORD, 1], [2**63, 2**63], [2**63, 2**63 - 1], [MOST_WORD] * 3:
-        for out in 10, 400:
-            yield Write(255, MOST_WORD, MOST_WORD, Listed([MOST_WORD]), Listed(values), Listed(values), out)
-    for _ in range(250):
-        words, values, errors = random_content(r)
-        plan = r.below(256), r.below(2**64), r.below(2**20)
-        length = len(reference.encode(*plan, words, values, errors))
-        out = r.one_of([length - 1, length, length + 1, r.between(0, length), length + r.between(0, 60)])
-        yield Write(*plan, Listed(words), Listed(values), given(errors), out)
 
 
 # ---- The largest ledgers ----
@@ -482,7 +351,7 @@ def write_cases(r):
 def largest_cases():
     """1,000,000 lines pass and one more is refusal 2, before 13."""
     for count in 1_000_000, 1_000_001:
-        ledger, few = Generated(count, 77, 1, 9_999, 50, ((500_000, 10**12), (count - 1, 10**9))), Equal(3)
+        ledger, few = Generated(count, 77, 1, 9_999, 50, ((500_000, 10**12), (count - 1, 10**9))), equal(3)
         yield Split(ledger, 3_000, 3)
         yield Draw(ledger, 3_000, 5, 0)
         yield Project(ledger, few, 3_000, 5)
@@ -495,8 +364,8 @@ def largest_cases():
 def every_case():
     r = Seeded(20)
     ways = [size_cases(r), split_cases(r), start_cases(r), draw_cases(r), project_cases(r), judge_cases(r)]
-    ways += [read_cases(r), write_cases(r), largest_cases()]
+    ways += [read_cases(r), write_cases(r), stored_reads(), largest_cases()]
     for way in ways:
         for case in way:
-            if not hasattr(case, "ledger") or getattr(case.ledger, "count", 0) <= LARGEST_LEDGER:
+            if not hasattr(case, "ledger") or case.ledger.count <= LARGEST_LEDGER:
                 yield case

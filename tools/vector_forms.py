@@ -1,6 +1,6 @@
 """The forms in which a case is given: lists, bytes, and one class for each operation.
 
-Each case packs itself, as tools/vectors.py describes, and runs itself through the reference.
+Each case packs itself, as docs/VECTORS.md describes, and runs itself through the reference.
 """
 
 import collections
@@ -9,13 +9,7 @@ from dataclasses import dataclass
 
 import reference
 
-
-def room_of_numbers(count):
-    return [11_000_000_000_000_000_000 + i for i in range(count)]
-
-
-def room_of_bytes(count):
-    return bytearray((17 + i % 199) for i in range(count))
+MOST_WORD = 2**64 - 1
 
 
 # ---- Lists and bytes ----
@@ -33,17 +27,6 @@ def changed(entries, changes):
 
 
 @dataclass
-class Listed:
-    entries: list
-
-    def pack(self):
-        return struct.pack(f"<BI{len(self.entries)}Q", 0, len(self.entries), *self.entries)
-
-    def expand(self):
-        return list(self.entries)
-
-
-@dataclass
 class Generated:
     count: int
     seed: int = 0
@@ -51,30 +34,44 @@ class Generated:
     most: int = 0
     scale: int = 0
     changes: tuple = ()
+    step: int = 0
 
     def pack(self):
-        head = (1, self.count, self.seed, self.low, self.most, self.scale)
-        return struct.pack("<BIIIII", *head) + packed(self.changes)
+        if self.count == 0:
+            return struct.pack("<I", 0)
+        head = (self.count, self.seed, self.low, self.step, self.most, self.scale)
+        return struct.pack("<IIQIII", *head) + packed(self.changes)
 
     def expand(self):
         entries, x = [], self.seed
-        for _ in range(self.count):
+        for place in range(self.count):
             x = (x * 1_664_525 + 1_013_904_223) % 2**32
-            entries.append(self.low + (x // 256 % (self.most + 1)) * self.scale)
+            entries.append((self.low + place * self.step + x // 256 % (self.most + 1) * self.scale) % 2**64)
         return changed(entries, self.changes)
 
 
-@dataclass
-class Equal:
-    count: int
-    entry: int = 0
-    changes: tuple = ()
+NOTHING = Generated(0)
 
-    def pack(self):
-        return struct.pack("<BIQ", 2, self.count, self.entry) + packed(self.changes)
 
-    def expand(self):
-        return changed([self.entry] * self.count, self.changes)
+def equal(count, entry=0, changes=()):
+    """One entry, repeated, and changes."""
+    return Generated(count, low=entry, changes=changes)
+
+
+def listed(entries):
+    """Any list: the most frequent entry, and each other as a change."""
+    usual = collections.Counter(entries).most_common(1)[0][0] if entries else 0
+    return equal(len(entries), usual, tuple((place, entry) for place, entry in enumerate(entries) if entry != usual))
+
+
+def room_of_numbers(count):
+    """What a lent room of numbers holds before a call."""
+    return Generated(count, low=11_000_000_000_000_000_000, step=1)
+
+
+def room_of_bytes(count):
+    """What a lent room of bytes holds before a call."""
+    return bytearray((17 + i % 199) for i in range(count))
 
 
 @dataclass
@@ -84,13 +81,13 @@ class Given:
     def pack(self):
         return struct.pack("<BI", 0, len(self.content)) + self.content
 
-    def expand(self, written):
+    def expand(self, latest):
         return self.content
 
 
 @dataclass
 class Written:
-    """Bytes of the latest write's room, changed."""
+    """The start of the room of bytes that was lent last, as that call left it, changed."""
 
     count: int
     changes: tuple = ()
@@ -98,15 +95,15 @@ class Written:
     def pack(self):
         return struct.pack("<BI", 1, self.count) + packed(self.changes, "<IB")
 
-    def expand(self, written):
-        return bytes(changed(bytearray(written[: self.count]), self.changes))
+    def expand(self, latest):
+        return bytes(changed(bytearray(latest[: self.count]), self.changes))
 
 
-def given(entries):
-    """The shorter of two ways to give a list: each entry, or the most frequent one and changes."""
-    usual = collections.Counter(entries).most_common(1)[0][0] if entries else 0
-    changes = tuple((place, entry) for place, entry in enumerate(entries) if entry != usual)
-    return min(Listed(list(entries)), Equal(len(entries), usual, changes), key=lambda way: len(way.pack()))
+def fields(operation, level=0, numbers=(), room=0, ledger=NOTHING, errors=NOTHING, words=NOTHING):
+    """A case, but for a file: what an operation does not take is 0 or has no entries."""
+    first, second, third = [*numbers, 0, 0, 0][:3]
+    head = struct.pack("<BBQQQI", operation, level, first, second, third, room)
+    return head + ledger.pack() + errors.pack() + words.pack()
 
 
 # ---- Operations: each case packs itself, and runs itself through the reference ----
@@ -120,9 +117,9 @@ class Size:
     ae: int
 
     def pack(self):
-        return struct.pack("<BBQQQ", 1, self.level, self.total, self.te, self.ae)
+        return fields(1, self.level, (self.total, self.te, self.ae))
 
-    def run(self, written):
+    def run(self, latest):
         return reference.size(self.level, self.total, self.te, self.ae), []
 
 
@@ -133,11 +130,11 @@ class Split:
     marks: int
 
     def pack(self):
-        return b"\x02" + self.ledger.pack() + struct.pack("<QI", self.n, self.marks)
+        return fields(2, numbers=(self.n,), room=self.marks, ledger=self.ledger)
 
-    def run(self, written):
-        ledger, marks = self.ledger.expand(), room_of_bytes(self.marks)
-        return reference.split(ledger, self.n, marks), [ledger, marks]
+    def run(self, latest):
+        ledger, latest[:] = self.ledger.expand(), room_of_bytes(self.marks)
+        return reference.split(ledger, self.n, latest), [ledger, latest]
 
 
 @dataclass
@@ -146,9 +143,9 @@ class Start:
     words: object
 
     def pack(self):
-        return struct.pack("<BQ", 3, self.interval) + self.words.pack()
+        return fields(3, numbers=(self.interval,), words=self.words)
 
-    def run(self, written):
+    def run(self, latest):
         words = self.words.expand()
         return reference.start(self.interval, words), [words]
 
@@ -161,11 +158,11 @@ class Draw:
     marks: int
 
     def pack(self):
-        return b"\x04" + self.ledger.pack() + struct.pack("<QQI", self.n, self.start, self.marks)
+        return fields(4, numbers=(self.n, self.start), room=self.marks, ledger=self.ledger)
 
-    def run(self, written):
-        ledger, marks = self.ledger.expand(), room_of_bytes(self.marks)
-        return reference.draw(ledger, self.n, self.start, marks), [ledger, marks]
+    def run(self, latest):
+        ledger, latest[:] = self.ledger.expand(), room_of_bytes(self.marks)
+        return reference.draw(ledger, self.n, self.start, latest), [ledger, latest]
 
 
 @dataclass
@@ -176,9 +173,9 @@ class Project:
     start: int
 
     def pack(self):
-        return b"\x05" + self.ledger.pack() + self.errors.pack() + struct.pack("<QQ", self.n, self.start)
+        return fields(5, numbers=(self.n, self.start), ledger=self.ledger, errors=self.errors)
 
-    def run(self, written):
+    def run(self, latest):
         ledger, errors = self.ledger.expand(), self.errors.expand()
         return reference.project(ledger, self.n, self.start, errors), [ledger, errors]
 
@@ -193,10 +190,9 @@ class Judge:
     te: int
 
     def pack(self):
-        lists = self.ledger.pack() + self.errors.pack()
-        return bytes([6, self.level]) + lists + struct.pack("<QQQ", self.n, self.start, self.te)
+        return fields(6, self.level, (self.n, self.start, self.te), ledger=self.ledger, errors=self.errors)
 
-    def run(self, written):
+    def run(self, latest):
         ledger, errors = self.ledger.expand(), self.errors.expand()
         return reference.judge(self.level, ledger, self.n, self.start, errors, self.te), [ledger, errors]
 
@@ -208,12 +204,15 @@ class Read:
     values: int = 2_048
     errors: int = 2_048
 
-    def pack(self):
-        return b"\x07" + self.file.pack() + struct.pack("<III", self.words, self.values, self.errors)
+    def rooms(self):
+        return [room_of_numbers(count) for count in (self.words, self.values, self.errors)]
 
-    def run(self, written):
-        file = self.file.expand(written)
-        rooms = [room_of_numbers(count) for count in (self.words, self.values, self.errors)]
+    def pack(self):
+        words, values, errors = self.rooms()
+        return fields(7, ledger=values, errors=errors, words=words) + self.file.pack()
+
+    def run(self, latest):
+        file, rooms = self.file.expand(latest), [room.expand() for room in self.rooms()]
         return reference.read(file, *rooms), [file, *rooms]
 
 
@@ -228,11 +227,9 @@ class Write:
     out: int
 
     def pack(self):
-        lists = self.words.pack() + self.values.pack() + self.errors.pack()
-        return struct.pack("<BBQQ", 8, self.level, self.te, self.ae) + lists + struct.pack("<I", self.out)
+        lists = {"ledger": self.values, "errors": self.errors, "words": self.words}
+        return fields(8, self.level, (self.te, self.ae), self.out, **lists)
 
-    def run(self, written):
-        lists, out = [way.expand() for way in (self.words, self.values, self.errors)], room_of_bytes(self.out)
-        answer = reference.write(self.level, self.te, self.ae, *lists, out)
-        written[:] = out
-        return answer, [*lists, out]
+    def run(self, latest):
+        lists, latest[:] = [way.expand() for way in (self.words, self.values, self.errors)], room_of_bytes(self.out)
+        return reference.write(self.level, self.te, self.ae, *lists, latest), [*lists, latest]

@@ -5,41 +5,12 @@
     python3 tools/vectors.py check     compares both with what this script makes
     python3 tools/vectors.py count     how many cases each operation has, by answer
 
-The format, in docs/VECTORS.md too. All numbers are little-endian; u8, u16, u32 and u64 are whole numbers of 1, 2, 4
-and 8 bytes. The input is case after case, then one byte 0. A case is one byte of operation, then its fields:
-
-    1 size      level u8, total u64, TE u64, AE u64
-    2 split     ledger LIST, n u64, marks u32
-    3 start     J u64, words LIST
-    4 draw      ledger LIST, n u64, start u64, marks u32
-    5 project   ledger LIST, errors LIST, n u64, start u64
-    6 judge     level u8, ledger LIST, errors LIST, n u64, start u64, TE u64
-    7 read      file BYTES, words u32, values u32, errors u32
-    8 write     level u8, TE u64, AE u64, words LIST, values LIST, errors LIST, out u32
-
-marks, out, and read's words, values and errors are the lengths of lent rooms. Before the call entry i of a room of
-numbers is 11,000,000,000,000,000,000 + i, and byte i of a room of bytes is 17 + i mod 199.
-
-A LIST opens with a byte:
-    0   count u32, then count entries u64
-    1   count u32, seed u32, low u32, most u32, scale u32, changes u16, then changes × (place u32, entry u64):
-        x is seed at first; for each entry x becomes (x × 1,664,525 + 1,013,904,223) mod 2^32, and the entry is
-        low + (x / 256 mod (most + 1)) × scale; then the changes are made, each place below count.
-    2   count u32, entry u64, changes u16, then changes × (place u32, entry u64): every entry is that entry, then the
-        changes are made, each place below count.
-BYTES open with a byte:
-    0   count u32, then count bytes
-    1   count u32, changes u16, then changes × (place u32, byte u8): the first count bytes of the room of the latest
-        write as it was after that write, then the changes are made, each place below count.
-
-The output is one line a case: its number from 0, the operation's name, then the answer's figures or "refused", the
-number and the place; then "lent" and the digest of each lent list, bytes or room after the call, in the order of the
-fields. Size lends nothing and its line has no "lent". The digest h is 1 at first, and for each entry x it becomes
-(h × 31 + x mod 4,294,967,291) mod 4,294,967,291.
+The form of the input and of the output stands in docs/VECTORS.md; tools/vector_forms.py packs a case in it.
 """
 
 import collections
 import pathlib
+import struct
 import sys
 
 from reference import Refusal
@@ -50,6 +21,9 @@ STDIN, STDOUT = ROOT / "crates/vectors/stdin", ROOT / "crates/vectors/stdout"
 
 PRIME = 4_294_967_291
 
+# The program reads one case at a time, and has this room for it.
+LONGEST_CASE = 65_536
+
 
 def digest(entries):
     h = 1
@@ -58,8 +32,8 @@ def digest(entries):
     return h
 
 
-def answer_text(number, case, written):
-    answer, lent = case.run(written)
+def answer_text(number, case, latest):
+    answer, lent = case.run(latest)
     words = ["refused", *answer] if isinstance(answer, Refusal) else list(answer)
     if lent:
         words += ["lent", *map(digest, lent)]
@@ -67,12 +41,19 @@ def answer_text(number, case, written):
 
 
 def make():
-    """The input and the output."""
-    packed, lines, written = [], [], bytearray()
+    """Each case, and the output."""
+    cases, lines, latest = [], [], bytearray()
     for number, case in enumerate(every_case()):
-        packed.append(case.pack())
-        lines.append(answer_text(number, case, written) + "\n")
-    return b"".join(packed) + b"\0", "".join(lines).encode()
+        cases.append(case.pack())
+        lines.append(answer_text(number, case, latest) + "\n")
+        if len(cases[-1]) > LONGEST_CASE:
+            sys.exit(f"case {number} has {len(cases[-1])} bytes, and the program has room for {LONGEST_CASE}")
+    return cases, "".join(lines).encode()
+
+
+def framed(case):
+    """A case after its length."""
+    return struct.pack("<I", len(case)) + case
 
 
 def count_lines(text):
@@ -88,7 +69,8 @@ def count_lines(text):
 
 
 def main(arguments):
-    stdin, stdout = make()
+    cases, stdout = make()
+    stdin = b"".join(map(framed, [*cases, b""]))
     if arguments == ["write"]:
         STDIN.parent.mkdir(parents=True, exist_ok=True)
         STDIN.write_bytes(stdin)
@@ -100,7 +82,8 @@ def main(arguments):
     elif arguments != ["count"]:
         sys.exit(__doc__)
     count_lines(stdout)
-    print(f"{stdout.count(10)} cases, {len(stdin)} bytes in, {len(stdout)} bytes out")
+    longest = max(map(len, cases))
+    print(f"{len(cases)} cases, {len(stdin)} bytes in, {len(stdout)} bytes out; the longest case has {longest} bytes")
 
 
 if __name__ == "__main__":

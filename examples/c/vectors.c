@@ -6,21 +6,24 @@
 #include "driver.h"
 #include "mus.h"
 
-#define INPUT_ROOM 1000000
+#define CASE_ROOM 65536
 #define MOST_ENTRIES 1000001
 #define DIGEST UINT64_C(4294967291)
 
-static uint8_t input[INPUT_ROOM], answers[INPUT_ROOM];
-static size_t input_length, answers_length, at, answers_at;
-static int broken; /* the cases end too early, or ask for more than there is room for */
+static FILE *cases, *answers;
+static uint8_t input[CASE_ROOM]; /* one case */
+static size_t input_length, at;
+static int broken; /* a case ends too early, or asks for more than there is room for */
 
+/* The fields of a case. A list is an operation's input, or for a read a room that is lent with this content. */
+static uint8_t level;
+static uint64_t first, second, third;
+static size_t room_length, ledger_length, errors_length, words_length;
 static uint64_t ledger[MOST_ENTRIES], errors[MOST_ENTRIES], words[MOST_ENTRIES];
-static uint64_t words_room[MOST_ENTRIES], values_room[MOST_ENTRIES], errors_room[MOST_ENTRIES];
-static uint8_t bytes[MOST_ENTRIES], file[MOST_ENTRIES];
-static size_t written_room; /* how many bytes of `bytes` are the room of the latest write */
-static uint8_t written[MOST_ENTRIES];
+static uint8_t file[MOST_ENTRIES], bytes[MOST_ENTRIES]; /* `bytes` is the room of bytes that was lent last */
+static size_t latest_room;
 
-static char line[1000];
+static char line[1000], wanted[1001];
 static size_t line_length;
 
 /* A number of so many bytes, the lowest first. */
@@ -56,23 +59,15 @@ static void change(uint64_t *to, size_t count)
 
 static size_t list(uint64_t *to)
 {
-    uint64_t form = number(1);
-    size_t count = length_field();
-    if (form == 0) {
-        for (size_t i = 0; i < count && !broken; i++) to[i] = number(8);
-    } else if (form == 1) {
-        uint64_t x = number(4), low = number(4), most = number(4), scale = number(4);
-        for (size_t i = 0; i < count; i++) {
-            x = (x * 1664525 + 1013904223) & UINT64_C(0xFFFFFFFF);
-            to[i] = low + x / 256 % (most + 1) * scale;
-        }
-        change(to, count);
-    } else {
-        uint64_t entry = number(8);
-        for (size_t i = 0; i < count; i++) to[i] = entry;
-        change(to, count);
+    size_t entries = length_field();
+    if (entries == 0) return 0;
+    uint64_t x = number(4), low = number(8), step = number(4), most = number(4), scale = number(4);
+    for (size_t i = 0; i < entries; i++) {
+        x = (x * 1664525 + 1013904223) & UINT64_C(0xFFFFFFFF);
+        to[i] = low + i * step + x / 256 % (most + 1) * scale;
     }
-    return count;
+    change(to, entries);
+    return entries;
 }
 
 static size_t byte_list(uint8_t *to)
@@ -83,11 +78,11 @@ static size_t byte_list(uint8_t *to)
         for (size_t i = 0; i < count && !broken; i++) to[i] = (uint8_t) number(1);
         return count;
     }
-    if (count > written_room) {
+    if (count > latest_room) {
         broken = 1;
         return 0;
     }
-    memcpy(to, written, count);
+    memcpy(to, bytes, count);
     for (uint64_t changes = number(2); changes > 0 && !broken; changes--) {
         uint64_t place = number(4), byte = number(1);
         if (place < count) to[place] = (uint8_t) byte; else broken = 1;
@@ -95,19 +90,24 @@ static size_t byte_list(uint8_t *to)
     return count;
 }
 
-/* A lent room, with the content that it has before each call. */
-static size_t byte_room(uint8_t *room)
+/* A lent room of bytes, with the content that it has before each call. */
+static void byte_room(void)
 {
-    size_t count = length_field();
-    for (size_t i = 0; i < count; i++) room[i] = (uint8_t) (17 + i % 199);
-    return count;
+    for (size_t i = 0; i < room_length; i++) bytes[i] = (uint8_t) (17 + i % 199);
+    latest_room = room_length;
 }
 
-static size_t room(uint64_t *to)
+/* What every case has, but for a read's file. */
+static void fields(void)
 {
-    size_t count = length_field();
-    for (size_t i = 0; i < count; i++) to[i] = UINT64_C(11000000000000000000) + i;
-    return count;
+    level = (uint8_t) number(1);
+    first = number(8);
+    second = number(8);
+    third = number(8);
+    room_length = length_field();
+    ledger_length = list(ledger);
+    errors_length = list(errors);
+    words_length = list(words);
 }
 
 static void say(const char *text)
@@ -156,140 +156,131 @@ static void say_bytes(const uint8_t *entries, size_t count)
 
 static void size_case(void)
 {
-    uint8_t level = (uint8_t) number(1);
-    uint64_t total = number(8), te = number(8), ae = number(8);
-    struct mus_size_result r = mus_size(level, total, te, ae);
+    struct mus_size_result r = mus_size(level, first, second, third);
     say(" size");
     say_answer(r.refusal, r.place, &r.draws, 1);
 }
 
 static void split_case(void)
 {
-    size_t lines = list(ledger);
-    uint64_t n = number(8);
-    size_t marks = byte_room(bytes);
-    struct mus_split_result r = mus_split(ledger, lines, n, bytes, marks);
+    byte_room();
+    struct mus_split_result r = mus_split(ledger, ledger_length, first, bytes, room_length);
     say(" split");
     say_answer(r.refusal, r.place, &r.interval, 5);
     say(" lent");
-    say_list(ledger, lines);
-    say_bytes(bytes, marks);
+    say_list(ledger, ledger_length);
+    say_bytes(bytes, room_length);
 }
 
 static void start_case(void)
 {
-    uint64_t interval = number(8);
-    size_t count = list(words);
-    struct mus_start_result r = mus_start(interval, words, count);
+    struct mus_start_result r = mus_start(first, words, words_length);
     say(" start");
     say_answer(r.refusal, r.place, &r.start, 2);
     say(" lent");
-    say_list(words, count);
+    say_list(words, words_length);
 }
 
 static void draw_case(void)
 {
-    size_t lines = list(ledger);
-    uint64_t n = number(8), start = number(8);
-    size_t marks = byte_room(bytes);
-    struct mus_draw_result r = mus_draw(ledger, lines, n, start, bytes, marks);
+    byte_room();
+    struct mus_draw_result r = mus_draw(ledger, ledger_length, first, second, bytes, room_length);
     say(" draw");
     say_answer(r.refusal, r.place, &r.drawn, 1);
     say(" lent");
-    say_list(ledger, lines);
-    say_bytes(bytes, marks);
+    say_list(ledger, ledger_length);
+    say_bytes(bytes, room_length);
 }
 
 static void project_case(void)
 {
-    size_t lines = list(ledger), found = list(errors);
-    uint64_t n = number(8), start = number(8);
-    struct mus_project_result r = mus_project(ledger, lines, n, start, errors, found);
+    struct mus_project_result r = mus_project(ledger, ledger_length, first, second, errors, errors_length);
     say(" project");
     say_answer(r.refusal, r.place, &r.full, 3);
     say(" lent");
-    say_list(ledger, lines);
-    say_list(errors, found);
+    say_list(ledger, ledger_length);
+    say_list(errors, errors_length);
 }
 
 static void judge_case(void)
 {
     static const char *const verdicts[] = {" below", " inconclusive", " above"};
-    uint8_t level = (uint8_t) number(1);
-    size_t lines = list(ledger), found = list(errors);
-    uint64_t n = number(8), start = number(8), te = number(8);
-    struct mus_judge_result r = mus_judge(level, ledger, lines, n, start, errors, found, te);
+    struct mus_judge_result r = mus_judge(level, ledger, ledger_length, first, second, errors, errors_length, third);
     say(" judge");
     say_answer(r.refusal, r.place, &r.full, 5);
     if (r.refusal == 0) say(r.verdict >= 1 && r.verdict <= 3 ? verdicts[r.verdict - 1] : " (no verdict)");
     else if (r.verdict != 0) say(" (a verdict)");
     say(" lent");
-    say_list(ledger, lines);
-    say_list(errors, found);
+    say_list(ledger, ledger_length);
+    say_list(errors, errors_length);
 }
 
 static void read_case(void)
 {
-    size_t length = byte_list(file), w = room(words_room), v = room(values_room), e = room(errors_room);
-    struct mus_read_result r = mus_read(file, length, words_room, w, values_room, v, errors_room, e);
+    size_t length = byte_list(file);
+    struct mus_read_result r = mus_read(file, length, words, words_length, ledger, ledger_length, errors, errors_length);
     say(" read");
     say_answer(r.refusal, r.place, &r.level, 5);
     say(" lent");
     say_bytes(file, length);
-    say_list(words_room, w);
-    say_list(values_room, v);
-    say_list(errors_room, e);
+    say_list(words, words_length);
+    say_list(ledger, ledger_length);
+    say_list(errors, errors_length);
 }
 
 static void write_case(void)
 {
-    uint8_t level = (uint8_t) number(1);
-    uint64_t te = number(8), ae = number(8);
-    size_t w = list(words), v = list(ledger), e = list(errors);
-    written_room = byte_room(written);
-    struct mus_write_result r = mus_write(level, te, ae, words, w, ledger, v, errors, e, written, written_room);
+    byte_room();
+    struct mus_write_result r = mus_write(level, first, second, words, words_length, ledger, ledger_length, errors, errors_length, bytes, room_length);
     say(" write");
     say_answer(r.refusal, r.place, &r.length, 1);
     say(" lent");
-    say_list(words, w);
-    say_list(ledger, v);
-    say_list(errors, e);
-    say_bytes(written, written_room);
+    say_list(words, words_length);
+    say_list(ledger, ledger_length);
+    say_list(errors, errors_length);
+    say_bytes(bytes, room_length);
+}
+
+/* The next case, after its length: false where the length is 0, and where the case is not there or too long. */
+static int next_case(void)
+{
+    uint8_t length[4];
+    if (fread(length, 1, 4, cases) < 4) broken = 1;
+    else input_length = length[0] | (size_t) length[1] << 8 | (size_t) length[2] << 16 | (size_t) length[3] << 24;
+    if (broken || input_length == 0) return 0;
+    if (input_length > CASE_ROOM || fread(input, 1, input_length, cases) < input_length) broken = 1;
+    at = 0;
+    return !broken;
 }
 
 /* The line made is the next line of the answers. */
 static int same_line(void)
 {
-    size_t end = answers_at, from = answers_at;
-    while (end < answers_length && answers[end] != '\n') end++;
-    answers_at = end + 1;
-    return line_length < sizeof line && end < answers_length && end - from == line_length && memcmp(answers + from, line, line_length) == 0;
+    return line_length < sizeof line && fgets(wanted, (int) sizeof wanted, answers) != NULL && strlen(wanted) == line_length + 1
+        && wanted[line_length] == '\n' && memcmp(wanted, line, line_length) == 0;
 }
 
-static size_t read_file(const char *name, uint8_t *to)
-{
-    FILE *f = fopen(name, "rb");
-    if (f == NULL) return 0;
-    size_t length = fread(to, 1, INPUT_ROOM, f);
-    fclose(f);
-    return length < INPUT_ROOM ? length : 0;
-}
-
-void run_vectors(const char *cases, const char *expected)
+static void run_case(uint64_t place)
 {
     static void (*const operations[])(void) = {size_case, split_case, start_case, draw_case, project_case, judge_case, read_case, write_case};
     char what[40];
-    uint64_t operation, count = 0;
-    input_length = read_file(cases, input);
-    answers_length = read_file(expected, answers);
-    expect(input_length > 0 && answers_length > 0, "the stored cases and their answers are there");
-    while ((operation = number(1)) >= 1 && operation <= 8) {
-        line_length = (size_t) snprintf(line, sizeof line, "%llu", (unsigned long long) count);
-        operations[operation - 1]();
-        if (broken) break;
-        snprintf(what, sizeof what, "stored case %llu", (unsigned long long) count);
-        expect(same_line(), what);
-        count++;
-    }
-    expect(!broken && operation == 0 && at == input_length && answers_at == answers_length, "the cases and the answers end together");
+    uint64_t operation = number(1);
+    line_length = (size_t) snprintf(line, sizeof line, "%llu", (unsigned long long) place);
+    fields();
+    if (operation >= 1 && operation <= sizeof operations / sizeof operations[0]) operations[operation - 1]();
+    if (at != input_length) broken = 1;
+    snprintf(what, sizeof what, "stored case %llu", (unsigned long long) place);
+    expect(same_line() && !broken, what);
+}
+
+void run_vectors(const char *cases_name, const char *answers_name)
+{
+    cases = fopen(cases_name, "rb");
+    answers = fopen(answers_name, "rb");
+    expect(cases != NULL && answers != NULL, "the stored cases and their answers are there");
+    if (cases == NULL || answers == NULL) return;
+    for (uint64_t place = 0; !broken && next_case(); place++) run_case(place);
+    expect(!broken && fread(input, 1, 1, cases) == 0 && fread(input, 1, 1, answers) == 0, "the cases and the answers end together");
+    fclose(cases);
+    fclose(answers);
 }

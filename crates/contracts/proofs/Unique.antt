@@ -1,33 +1,44 @@
--- The contracts leave no freedom: any two results that meet one agree. Assumes nothing.
-use mathlib.Core.Path.{refl, sym, _∙_}
+-- The promises leave no freedom: any two results that meet one agree. Assumes nothing.
+use Prim.Native.Nat.{ℕ}
+use mathlib.Core.Path.{_≡_, refl, sym, ap, _∙_}
+use mathlib.Core.List.{List}
+use Rattle.terms.specs.Outcome.{Outcome}
 use Rattle.terms.proofs.Answers.{Made, good, bad, one-answer}
 use Rattle.factors.specs.declared.LevelAnswer.{LevelAnswer}
 use Rattle.factors.specs.declared.LevelAnswer.the-variants as level
-use Rattle.factors.specs.Levels.{levelSays}
 use Rattle.ledger.specs.declared.LedgerAnswer.{LedgerAnswer}
 use Rattle.ledger.specs.declared.LedgerAnswer.the-variants as ledger
-use Rattle.ledger.specs.Ledger.{ledgerSays}
 use Rattle.size.specs.declared.SizeAnswer.{SizeAnswer}
 use Rattle.size.specs.declared.SizeAnswer.the-variants as size
-use Rattle.size.specs.Size.{sizeSays}
 use Rattle.split.specs.declared.SplitAnswer.{SplitAnswer}
 use Rattle.split.specs.declared.SplitAnswer.the-variants as split
-use Rattle.split.specs.Split.{splitSays}
 use Rattle.start.specs.declared.StartAnswer.{StartAnswer}
 use Rattle.start.specs.declared.StartAnswer.the-variants as start
-use Rattle.start.specs.Start.{startSays}
 use Rattle.draw.specs.declared.DrawAnswer.{DrawAnswer}
 use Rattle.draw.specs.declared.DrawAnswer.the-variants as draw
-use Rattle.draw.specs.Draw.{drawSays}
 use Rattle.project.specs.declared.ProjectAnswer.{ProjectAnswer}
 use Rattle.project.specs.declared.ProjectAnswer.the-variants as project
-use Rattle.project.specs.Project.{projectSays}
 use Rattle.judge.specs.declared.JudgeAnswer.{JudgeAnswer}
 use Rattle.judge.specs.declared.JudgeAnswer.the-variants as judge
-use Rattle.judge.specs.Judge.{judgeSays}
+use Rattle.factors.specs.Levels.{levelSays}
+use Rattle.ledger.specs.Ledger.{ledgerSays}
+use Rattle.size.specs.Size.{sizeSays, SizePromise}
+use Rattle.split.specs.declared.Figures.{Figures}
+use Rattle.split.specs.Split.{splitSays, SplitPromise}
+use Rattle.start.specs.Start.{startSays, StartPromise}
+use Rattle.draw.specs.Draw.{drawSays, DrawPromise}
+use Rattle.project.specs.Project.{projectSays, ProjectPromise}
+use Rattle.judge.specs.Judge.{judgeSays, JudgePromise}
+use Rattle.workfile.specs.declared.Plan.{Plan}
+use Rattle.workfile.specs.Promises.{ReadPromise, WritePromise}
 use Rattle.workfile.proofs.Promises.{read-once, write-once}
+use Rattle.pen.proofs.Writing.{printed-once}
 use Rattle.steps.proofs.Laws.{steps-once}
-use Rattle.contracts.specs.Unique.{NoFreedom}
+use Rattle.sheet.specs.Sheet.{SheetPromise}
+use Rattle.sheet.proofs.OneText.{sheet-once}
+use Rattle.notation.proofs.Laws.{parsed-once}
+use Rattle.results.specs.Seen.{Sees}
+use Rattle.contracts.specs.Unique.{One, OneWith, Three, NoFreedom}
 
 -- the answers of the steps
 level-made : (r : LevelAnswer) → Made level.Known level.Refused r
@@ -62,20 +73,77 @@ judge-made : (r : JudgeAnswer) → Made judge.Judged judge.Refused r
 judge-made (judge.Judged a) = good a
 judge-made (judge.Refused why) = bad why
 
+-- an answer of the split is what it says
+split-answer : {o : Outcome Figures} (r s : SplitAnswer) → splitSays r ≡ o → splitSays s ≡ o → r ≡ s
+split-answer = one-answer splitSays split.Split split.Refused (λ a. refl) (λ why. refl) split-made
+
+-- the operations that C has too
+size-once : (percent total te ae : ℕ) → One (SizePromise percent total te ae)
+size-once _ _ _ _ r s p q = one-answer sizeSays size.Draws size.Refused (λ a. refl) (λ why. refl) size-made r s (p .answer) (q .answer)
+
+split-once : (ledger : List ℕ) (n : ℕ) (marks : List ℕ) → OneWith (SplitPromise ledger n marks)
+split-once _ _ _ r s _ _ p q = (split-answer r s (p .answer) (q .answer), p .marks-left ∙ sym (q .marks-left))
+
+start-once : (J : ℕ) (words : List ℕ) → One (StartPromise J words)
+start-once _ _ r s p q = one-answer startSays start.Started start.Refused (λ a. refl) (λ why. refl) start-made r s (p .answer) (q .answer)
+
+draw-once : (ledger : List ℕ) (n start : ℕ) (marks : List ℕ) → OneWith (DrawPromise ledger n start marks)
+draw-once _ _ _ _ r s _ _ p q =
+    (one-answer drawSays draw.Drawn draw.Refused (λ a. refl) (λ why. refl) draw-made r s (p .answer) (q .answer), p .marks-left ∙ sym (q .marks-left))
+
+project-once : (ledger : List ℕ) (n start : ℕ) (errors : List ℕ) → One (ProjectPromise ledger n start errors)
+project-once _ _ _ _ r s p q = one-answer projectSays project.Projected project.Refused (λ a. refl) (λ why. refl) project-made r s (p .answer) (q .answer)
+
+judge-once : (percent : ℕ) (ledger : List ℕ) (n start : ℕ) (errors : List ℕ) (te : ℕ) → One (JudgePromise percent ledger n start errors te)
+judge-once _ _ _ _ _ _ r s p q = one-answer judgeSays judge.Judged judge.Refused (λ a. refl) (λ why. refl) judge-made r s (p .answer) (q .answer)
+
+reads-once : (file words values errors : List ℕ) → OneWith (λ r (b : Three). ReadPromise file words values errors r (b .0) (b .1) (b .2))
+reads-once _ _ _ _ _ _ _ _ p q = let same = read-once p q in (same .0, λ i. (same .1 i, same .2 i, same .3 i))
+
+writes-once : (plan : Plan) (words values errors file : List ℕ) → OneWith (WritePromise plan words values errors file)
+writes-once _ _ _ _ _ _ _ _ _ p q = write-once p q
+
+sheets-once : (file page : List ℕ) → OneWith (SheetPromise file page)
+sheets-once _ _ _ _ _ _ p q = sheet-once p q
+
+-- where a promise leaves one answer, it leaves one result for C
+module _ {A O R : Type 0} {shows : O → R} {says : A → O} where
+  sees : {Promise : A → Type 0} → One Promise → One (Sees shows says Promise)
+  sees one _ _ p q = p .shown ∙ ap (λ a. shows (says a)) (one _ _ (p .promised) (q .promised)) ∙ sym (q .shown)
+
+  sees-with : {B : Type 0} {Promise : A → B → Type 0} → OneWith Promise → OneWith (λ r b. Sees shows says (λ a. Promise a b) r)
+  sees-with one _ _ b c p q =
+      let same = one _ _ b c (p .promised) (q .promised) in
+      (p .shown ∙ ap (λ a. shows (says a)) (same .0) ∙ sym (q .shown), same .1)
+
 pub no-freedom : NoFreedom
 no-freedom =
     record {
-      number = λ _ _ _ p q. p .answer ∙ sym (q .answer);
-      place = λ _ _ _ p q. p .answer ∙ sym (q .answer);
+      tell = λ _ _ _ p q. p ∙ sym q;
       level = λ _ r s p q. one-answer levelSays level.Known level.Refused (λ a. refl) (λ why. refl) level-made r s (p .answer) (q .answer);
       ledger = λ _ _ r s p q. one-answer ledgerSays ledger.Total ledger.Refused (λ a. refl) (λ why. refl) ledger-made r s (p .answer) (q .answer);
-      size = λ _ _ _ _ r s p q. one-answer sizeSays size.Draws size.Refused (λ a. refl) (λ why. refl) size-made r s (p .answer) (q .answer);
-      split = λ _ _ _ r s _ _ p q. (one-answer splitSays split.Split split.Refused (λ a. refl) (λ why. refl) split-made r s (p .answer) (q .answer), p .marked ∙ sym (q .marked));
-      start = λ _ _ r s p q. one-answer startSays start.Started start.Refused (λ a. refl) (λ why. refl) start-made r s (p .answer) (q .answer);
-      draw = λ _ _ _ _ r s _ _ p q. (one-answer drawSays draw.Drawn draw.Refused (λ a. refl) (λ why. refl) draw-made r s (p .answer) (q .answer), p .marked ∙ sym (q .marked));
-      project = λ _ _ _ _ r s p q. one-answer projectSays project.Projected project.Refused (λ a. refl) (λ why. refl) project-made r s (p .answer) (q .answer);
-      judge = λ _ _ _ _ _ _ r s p q. one-answer judgeSays judge.Judged judge.Refused (λ a. refl) (λ why. refl) judge-made r s (p .answer) (q .answer);
-      steps = λ plan words ledger errors r s p q. steps-once plan words ledger errors (p .answer) (q .answer);
-      read = λ _ _ _ _ _ _ _ _ _ _ _ _ p q. read-once p q;
-      write = λ _ _ _ _ _ _ _ _ _ p q. write-once p q;
+      size = size-once;
+      split = split-once;
+      figures = λ _ _ _ r s p q. split-answer r s (p .answer) (q .answer);
+      figures-for = λ _ _ _ _ r s p q. split-answer r s (p .answer) (q .answer);
+      start = start-once;
+      draw = draw-once;
+      project = project-once;
+      judge = judge-once;
+      steps = λ _ _ _ _ _ _ p q. steps-once p q;
+      read = reads-once;
+      write = writes-once;
+      sheet = λ _ _ _ _ _ _ p q. printed-once p q;
+      sheet-in = sheets-once;
+      parse = λ _ _ _ _ _ _ _ _ p q. let same = parsed-once p q in (same .answers, λ i. (same .words i, same .values i, same .errors i));
+      print-fault = λ _ _ _ _ _ _ p q. printed-once p q;
+      mus-size = λ percent total te ae. sees (size-once percent total te ae);
+      mus-split = λ ledger n marks. sees-with (split-once ledger n marks);
+      mus-start = λ J words. sees (start-once J words);
+      mus-draw = λ ledger n start marks. sees-with (draw-once ledger n start marks);
+      mus-project = λ ledger n start errors. sees (project-once ledger n start errors);
+      mus-judge = λ percent ledger n start errors te. sees (judge-once percent ledger n start errors te);
+      mus-read = λ file words values errors. sees-with (reads-once file words values errors);
+      mus-write = λ plan words values errors file. sees-with (writes-once plan words values errors file);
+      mus-sheet = λ file page. sees-with (sheets-once file page);
     }

@@ -3,20 +3,24 @@
 use Prim.Native.Nat.{ℕ, _/_, _<_}
 use native.Mathlib.Nat.{zero-div, eq-zero-or-pos}
 use native.Mathlib.Omega.{arith}
-use mathlib.Core.Path.{_≡_, sym, ap, _∙_}
+use mathlib.Core.Path.{_≡_, ap, _∙_}
 use mathlib.Core.List.{List, []}
 use mathlib.Core.Logic.{⊎-elim}
 use lib.Dec.{eqb}
 use lib.ListN.{length, getD}
-use Rattle.terms.specs.Outcome.{accepted, after, left}
+use Rattle.terms.specs.Outcome.{accepted}
 use Rattle.split.specs.declared.Figures.{Figures}
 use Rattle.split.specs.Split.{splitOf}
+use Rattle.split.specs.Start.{figuresFor}
 use Rattle.split.proofs.Facts.{split-facts}
+use Rattle.split.proofs.Start.{start-accepted}
 use Rattle.draw.specs.Row.{rowCents, marksFrom, drawMarks, ones}
-use Rattle.draw.specs.Draw.{figuresFor, marksAt, drawOf}
-use Rattle.draw.proofs.Laws.{row-sampled, start-accepted}
-use Rattle.project.specs.Lines.{linesOf, sampledPart, total, projectionOf}
-use Rattle.project.specs.Project.{checkedLines, projectionAt, projectedBy, projectOf}
+use Rattle.draw.specs.Draw.{drawOf}
+use Rattle.draw.proofs.Laws.{draw-marks, marks-started, draw-started, row-figures}
+use Rattle.project.specs.Lines.{sampledPart, total, projectionOf}
+use Rattle.project.specs.Project.{checkedFrom, projectOf}
+use Rattle.project.proofs.Lines.{lines-of}
+use Rattle.project.proofs.Laws.{checked-of, projection-by, project-at}
 use Rattle.demands.specs.Starts.{sumBelow, oneIf, Within, entered}
 use Rattle.demands.specs.Demand3.{marksFor, projectedFor, sampledIn, fullIn, Demand3}
 use Rattle.demands.proofs.Sums.{sum-cong}
@@ -32,38 +36,35 @@ module _ (ledger : List ℕ) (n : ℕ) (errors : List ℕ) (f : Figures) (split 
     started : figuresFor ledger n start (length ledger) ≡ accepted f
     started = start-accepted ledger n start (length ledger) f split below
 
-    marks-are : marksFor ledger n start ≡ marksFrom (f .interval) start 0 ledger
-    unfolding drawMarks
-    marks-are = ap (left (marksAt ledger start) []) started
+    marks-are : marksFor ledger n start ≡ drawMarks (f .interval) start ledger
+    marks-are = marks-started ledger n start (length ledger) f started []
 
     draw-is : drawOf ledger n start (length ledger) ≡ accepted (ones (drawMarks (f .interval) start ledger))
-    unfolding drawOf
-    draw-is = ap (after (λ figures. accepted (ones (marksAt ledger start figures)))) started
+    draw-is = draw-started ledger n start (length ledger) f started
 
     project-is : projectedFor ledger n errors start ≡ accepted (projectionOf (enteredLines (f .interval) start 0 ledger errors))
-    unfolding projectOf projectionAt checkedLines linesOf
     project-is =
         let J : ℕ = f .interval in
         let es : List ℕ = entered (marksFrom J start 0 ledger) errors in
-        ap (λ (marks : List ℕ). projectOf ledger n start (entered marks errors)) marks-are
-        ∙ ap (λ (beside : ℕ). after (projectedBy ledger start es) (figuresFor ledger n start beside)) (entered-length J start 0 ledger errors)
-        ∙ ap (after (projectedBy ledger start es)) started
-        ∙ ap (after (λ lines. accepted (projectionOf lines))) (entered-clean J start 0 0 ledger errors within)
+        ap (λ (marks : List ℕ). projectOf ledger n start (entered marks errors)) (marks-are ∙ draw-marks J start ledger)
+        ∙ project-at ledger n start es f split (entered-length J start 0 ledger errors) below
+        ∙ projection-by 0 J start ledger es
+        (checked-of 0 J start ledger es ∙ ap (checkedFrom 0) (lines-of J start ledger es) ∙ entered-clean J start 0 0 ledger errors within)
 
   pub demand-3 : 0 < f .interval → Demand3 ledger n errors f
   demand-3 some =
       let J : ℕ = f .interval in
       let facts = split-facts ledger n (length ledger) f split in
-      let row : rowCents J ledger ≡ f .«sampled_total» = row-sampled J ledger ∙ sym (facts .sampled) in
+      let row : rowCents J ledger ≡ f .«sampled_total» = row-figures facts in
       let sampled : sumBelow J (λ start. sampledIn (projectedFor ledger n errors start)) ≡ weighted J ledger errors =
       sum-cong J _ (λ start. total sampledPart (enteredLines J start 0 ledger errors)) (λ start below. ap sampledIn (project-is start below))
       ∙ projected-all J some 0 ledger errors in
       record {
         drawn = λ item inside small.
-            sum-cong J _ (λ start. oneIf (eqb (getD (marksFrom J start 0 ledger) item 0) 1)) (λ start below. ap (λ (marks : List ℕ). oneIf (eqb (getD marks item 0) 1)) (marks-are start below))
-            ∙ drawn-each J some 0 ledger item inside small;
+            sum-cong J _ (λ start. oneIf (eqb (getD (drawMarks J start ledger) item 0) 1)) (λ start below. ap (λ (marks : List ℕ). oneIf (eqb (getD marks item 0) 1)) (marks-are start below))
+            ∙ drawn-each J some ledger item inside small;
         least = omega (arith, sampled, least-all J ledger errors within);
-        most = omega (arith, sampled, most-all J ledger errors within, row, some-sampled J (f .«sampled_total») (f .«draws_left») (facts .final) some);
+        most = omega (arith, sampled, most-all J ledger errors, row, some-sampled J (f .«sampled_total») (f .«draws_left») (facts .final) some);
         exact = λ start below. ap fullIn (project-is start below) ∙ full-all J start 0 ledger errors;
         draws = λ start below. (_, draw-is start below);
         answers = λ start below. (_, project-is start below);

@@ -1,22 +1,25 @@
 -- Demand 3 at an interval J: the draw and the projection, line by line and over all starts. Assumes nothing.
-use Prim.Native.Nat.{ℕ, zero, suc, _+_, _*_, _≤_, _<_, min, zero-le}
-use native.Mathlib.Nat.{suc-mul, mul-add, one-mul, zero-mul, mul-zero, mul-comm, eq-zero-or-pos, not-suc-le-zero, le-of-suc-le-suc}
+use Prim.Native.Nat.{ℕ, suc, _+_, _*_, _≤_, _<_, min, zero-le}
+use native.Mathlib.Nat.{mul-add, one-mul, zero-mul, mul-zero}
 use native.Mathlib.Omega.{arith}
-use mathlib.Core.Path.{_≡_, refl, sym, ap, _∙_}
+use mathlib.Core.Path.{_≡_, refl, sym, ap, subst, _∙_}
 use mathlib.Core.Bool.{Bool, true, false}
 use mathlib.Core.List.{List, [], _∷_}
-use mathlib.Core.Logic.{⊎-elim}
-use borrow.Author.Tests.{ltb-true, ltb-false, le-ltb}
-use lib.Dec.{ltb, eqb}
+use borrow.Author.Tests.{ltb-true, ltb-false}
+use lib.Dec.{eqb}
 use lib.ListN.{length, getD, drop}
 use Rattle.terms.specs.Numbers.{pick}
-use Rattle.terms.specs.Outcome.{Outcome, accepted, after}
-use Rattle.terms.proofs.Rounding.{below-divUp, divUp-enough}
+use Rattle.terms.specs.Outcome.{accepted}
 use Rattle.draw.specs.Points.{covers}
-use Rattle.draw.specs.Row.{full, cents, rowCents, markBy, marksFrom}
+use Rattle.draw.specs.Row.{full, cents, rowCents, firstCent, markBy, marksFrom, drawMarks}
+use Rattle.draw.proofs.Laws.{row-nil, row-more, marks-more, marks-length, mark-at}
+use Rattle.project.specs.declared.State.{State}
 use Rattle.project.specs.declared.Line.{Line}
-use Rattle.project.specs.Lines.{amount, stateBy, linesFrom, fullPart, sampledPart, total}
-use Rattle.project.specs.Project.{misplaced, checkedLine, checkedFrom}
+use Rattle.project.specs.Lines.{amount, stateBy, lineFrom, linesFrom, fullPart, sampledPart, total}
+use Rattle.project.specs.Project.{misplaced, checkedFrom}
+use Rattle.project.proofs.Amounts.{amount-least, amount-over}
+use Rattle.project.proofs.Lines.{lines-none, lines-more, total-none, total-more}
+use Rattle.project.proofs.Checking.{checked-none, checked-before}
 use Rattle.demands.specs.Starts.{sumBelow, oneIf, Within, entered, sampledError, fullError}
 use Rattle.demands.proofs.Sums.{sum-cong, sum-add, sum-const, sum-times, covered-at}
 
@@ -44,15 +47,31 @@ module _ (J : ℕ) (some : 0 < J) where
   drawn-first o v true q h = absurd (omega (arith, ltb-true J v q))
   drawn-first o v false q h = sum-cong J _ (λ s. oneIf (covers J s o v)) (λ s l. mark-line (covers J s o v)) ∙ covered-at J o v some h
 
-  pub drawn-each : (o : ℕ) (vs : List ℕ) (item : ℕ) → item < length vs → getD vs item 0 ≤ J → sumBelow J (λ s. oneIf (eqb (getD (marksFrom J s o vs) item 0) 1)) ≡ getD vs item 0
-  unfolding marksFrom
-  drawn-each o [] item l h = absurd (not-suc-le-zero l)
-  drawn-each o (v ∷ vs) zero l h = drawn-first o v (full J v) refl h
-  drawn-each o (v ∷ vs) (suc item) l h = drawn-each (o + cents J v) vs item (le-of-suc-le-suc l) h
+  pub drawn-each : (ledger : List ℕ) (item : ℕ) → item < length ledger → getD ledger item 0 ≤ J →
+      sumBelow J (λ s. oneIf (eqb (getD (drawMarks J s ledger) item 0) 1)) ≡ getD ledger item 0
+  drawn-each ledger item inside h =
+      let v : ℕ = getD ledger item 0 in
+      let o : ℕ = firstCent J ledger item in
+      sum-cong J _ (λ s. oneIf (eqb (markBy (full J v) (covers J s o v)) 1)) (λ s l. ap (λ (mark : ℕ). oneIf (eqb mark 1)) (mark-at J s ledger item inside))
+      ∙ drawn-first o v (full J v) refl h
 
 -- The lines at a start, where the errors of drawn and full lines are entered.
 abbrev pub enteredLines : ℕ → ℕ → ℕ → List ℕ → List ℕ → List Line
 enteredLines J s o vs es = linesFrom J s o vs (entered (marksFrom J s o vs) es)
+
+module _ (J s o : ℕ) where
+  entered-more : (v : ℕ) (vs es : List ℕ) →
+      enteredLines J s o (v ∷ vs) es ≡ lineFrom J s o v (kept (full J v) (covers J s o v) (getD es 0 0)) ∷ enteredLines J s (o + cents J v) vs (drop 1 es)
+  unfolding entered
+  entered-more v vs es = ap (λ (marks : List ℕ). linesFrom J s o (v ∷ vs) (entered marks es)) (marks-more J s o v vs) ∙ lines-more J s o v vs _
+
+  total-entered : (part : State → ℕ → ℕ) (v : ℕ) (vs es : List ℕ) → let e : ℕ = kept (full J v) (covers J s o v) (getD es 0 0) in
+      total part (enteredLines J s o (v ∷ vs) es)
+      ≡ part (stateBy (full J v) (covers J s o v) (amount J v e)) e + total part (enteredLines J s (o + cents J v) vs (drop 1 es))
+  total-entered part v vs es = ap (total part) (entered-more v vs es) ∙ total-more part _ _
+
+  total-nothing : (part : State → ℕ → ℕ) (es : List ℕ) → total part (enteredLines J s o [] es) ≡ 0
+  total-nothing part es = ap (total part) (lines-none J s o _) ∙ total-none part
 
 -- the amounts over all starts: each line's amount as often as it has cents
 pub weighted : ℕ → List ℕ → List ℕ → ℕ
@@ -65,52 +84,38 @@ module _ (J : ℕ) (some : 0 < J) where
   line-all o v a false q = sum-times J (λ s. oneIf (covers J s o v)) a ∙ ap (λ (n : ℕ). n * a) (covered-at J o v some (ltb-false J v q))
 
   pub projected-all : (o : ℕ) (vs es : List ℕ) → sumBelow J (λ s. total sampledPart (enteredLines J s o vs es)) ≡ weighted J vs es
-  unfolding linesFrom marksFrom entered total weighted
-  projected-all o [] es = sum-const J 0 ∙ mul-zero J
+  unfolding weighted
+  projected-all o [] es = sum-cong J _ (λ s. 0) (λ s l. total-nothing J s o sampledPart es) ∙ sum-const J 0 ∙ mul-zero J
   projected-all o (v ∷ vs) es =
-      sum-cong J _ (λ s. pick (full J v) 0 (oneIf (covers J s o v) * amount J v (getD es 0 0)) + total sampledPart (enteredLines J s (o + cents J v) vs (drop 1 es)))
-      (λ s l. ap (λ (n : ℕ). n + total sampledPart (enteredLines J s (o + cents J v) vs (drop 1 es))) (sampled-line (full J v) (covers J s o v) (amount J v) (getD es 0 0)))
+      let e : ℕ = getD es 0 0 in
+      sum-cong J _ (λ s. pick (full J v) 0 (oneIf (covers J s o v) * amount J v e) + total sampledPart (enteredLines J s (o + cents J v) vs (drop 1 es)))
+      (λ s l. total-entered J s o sampledPart v vs es
+      ∙ ap (λ (n : ℕ). n + total sampledPart (enteredLines J s (o + cents J v) vs (drop 1 es))) (sampled-line (full J v) (covers J s o v) (amount J v) e))
       ∙ sum-add J _ _
-      ∙ cc (line-all o v (amount J v (getD es 0 0)) (full J v) refl, projected-all (o + cents J v) vs (drop 1 es))
+      ∙ cc (line-all o v (amount J v e) (full J v) refl, projected-all (o + cents J v) vs (drop 1 es))
 
 -- the full lines' errors, at any start
 pub full-all : (J s o : ℕ) (vs es : List ℕ) → total fullPart (enteredLines J s o vs es) ≡ fullError J vs es
-unfolding linesFrom marksFrom entered total fullError
-full-all J s o [] es = refl
-full-all J s o (v ∷ vs) es = cc (full-line (full J v) (covers J s o v) (amount J v) (getD es 0 0), full-all J s (o + cents J v) vs (drop 1 es))
-
--- Rounding up, on one line: never less, and less than the line's value more.
-amount-least : (J v e : ℕ) → e ≤ v → J * e ≤ v * amount J v e
-unfolding amount
-amount-least J v e h =
-    ⊎-elim
-    (λ (z : v ≡ 0). let q : e ≡ 0 = omega arith in omega (arith, ap (λ (n : ℕ). J * n) q, mul-zero J))
-    (λ some. omega (arith, divUp-enough (e * J) v some, mul-comm e J, mul-comm v (amount J v e)))
-    (eq-zero-or-pos v)
-
-amount-most : (J v e a : ℕ) → amount J v e ≡ a → e ≤ v → v * a + min 1 v ≤ J * e + v
-unfolding amount
-amount-most J v e zero q h = omega (arith, mul-zero v)
-amount-most J v e (suc a) q h =
-    ⊎-elim
-    (λ (z : v ≡ 0). omega (arith, ap (λ (n : ℕ). n * suc a) z, zero-mul (suc a)))
-    (λ some. omega (arith, below-divUp a (e * J) v some (omega (arith, q)), mul-comm e J, mul-comm v (suc a), suc-mul a v))
-    (eq-zero-or-pos v)
+unfolding fullError
+full-all J s o [] es = total-nothing J s o fullPart es
+full-all J s o (v ∷ vs) es =
+    total-entered J s o fullPart v vs es
+    ∙ cc (full-line (full J v) (covers J s o v) (amount J v) (getD es 0 0), full-all J s (o + cents J v) vs (drop 1 es))
 
 pub within-later : (v : ℕ) (vs es : List ℕ) → Within (v ∷ vs) es → Within vs (drop 1 es)
 unfolding Within
 within-later v vs [] h = λ item. zero-le
 within-later v vs (e ∷ es) h = λ item. h (suc item)
 
--- and over the lines
+-- Rounding up: never less, and less than the book value more; on a line, and over the lines.
 module _ (J : ℕ) where
   least-line : (v e : ℕ) (f : Bool) → e ≤ v → J * pick f 0 e ≤ pick f 0 (v * amount J v e)
   least-line v e true h = omega (arith, mul-zero J)
   least-line v e false h = amount-least J v e h
 
-  most-line : (v e : ℕ) (f : Bool) → e ≤ v → pick f 0 (v * amount J v e) + min 1 (pick f 0 v) ≤ J * pick f 0 e + pick f 0 v
-  most-line v e true h = omega (arith, mul-zero J)
-  most-line v e false h = amount-most J v e (amount J v e) refl h
+  most-line : (v e : ℕ) (f : Bool) → pick f 0 (v * amount J v e) + min 1 (pick f 0 v) ≤ J * pick f 0 e + pick f 0 v
+  most-line v e true = omega (arith, mul-zero J)
+  most-line v e false = amount-over J v e
 
   pub least-all : (vs es : List ℕ) → Within vs es → J * sampledError J vs es ≤ weighted J vs es
   unfolding sampledError weighted Within
@@ -123,36 +128,36 @@ module _ (J : ℕ) where
         least-all vs (drop 1 es) (within-later v vs es h),
       )
 
-  pub most-all : (vs es : List ℕ) → Within vs es → weighted J vs es + min 1 (rowCents J vs) ≤ J * sampledError J vs es + rowCents J vs
-  unfolding sampledError rowCents weighted Within
-  most-all [] es h = omega (arith, mul-zero J)
-  most-all (v ∷ vs) es h =
+  pub most-all : (vs es : List ℕ) → weighted J vs es + min 1 (rowCents J vs) ≤ J * sampledError J vs es + rowCents J vs
+  unfolding sampledError weighted
+  most-all [] es = omega (arith, mul-zero J, row-nil J)
+  most-all (v ∷ vs) es =
       omega (
         arith,
         mul-add J (pick (full J v) 0 (getD es 0 0)) (sampledError J vs (drop 1 es)),
-        most-line v (getD es 0 0) (full J v) (h 0),
-        most-all vs (drop 1 es) (within-later v vs es h),
+        row-more J v vs,
+        most-line v (getD es 0 0) (full J v),
+        most-all vs (drop 1 es),
       )
 
 -- What is entered breaks no rule.
-entered-line : (f c : Bool) (g : ℕ → ℕ) (e v : ℕ) → e ≤ v → (ltb v (kept f c e) ≡ false) × (misplaced (stateBy f c (g (kept f c e))) (kept f c e) ≡ false)
-entered-line true c g e v h = (le-ltb v e h, refl)
-entered-line false true g e v h = (le-ltb v e h, refl)
-entered-line false false g e v h = (le-ltb v 0 zero-le, refl)
-
-clean-line : (item : ℕ) (l : Line) (ls : List Line) (o : Outcome (List Line)) → ltb (l .value) (l .error) ≡ false → misplaced (l .state) (l .error) ≡ false → o ≡ accepted ls →
-    after (λ good. after (λ rest. accepted (good ∷ rest)) o) (checkedLine item l) ≡ accepted (l ∷ ls)
-unfolding checkedLine
-clean-line item l ls o p q e = rw (p, q, e)
+entered-line : (f c : Bool) (g : ℕ → ℕ) (e v : ℕ) → e ≤ v → (kept f c e ≤ v) × (misplaced (stateBy f c (g (kept f c e))) (kept f c e) ≡ false)
+entered-line true c g e v h = (h, refl)
+entered-line false true g e v h = (h, refl)
+entered-line false false g e v h = (zero-le, refl)
 
 pub entered-clean : (J s o item : ℕ) (vs es : List ℕ) → Within vs es → checkedFrom item (enteredLines J s o vs es) ≡ accepted (enteredLines J s o vs es)
-unfolding Within checkedFrom linesFrom marksFrom entered
-entered-clean J s o item [] es h = refl
+unfolding Within
+entered-clean J s o item [] es h = subst (λ (ls : List Line). checkedFrom item ls ≡ accepted ls) (sym (lines-none J s o _)) (checked-none item)
 entered-clean J s o item (v ∷ vs) es h =
     let q = entered-line (full J v) (covers J s o v) (amount J v) (getD es 0 0) v (h 0) in
-    clean-line item _ _ _ (q .0) (q .1) (entered-clean J s (o + cents J v) (suc item) vs (drop 1 es) (within-later v vs es h))
+    subst (λ (ls : List Line). checkedFrom item ls ≡ accepted ls) (sym (entered-more J s o v vs es))
+    (checked-before item _ _ (q .0) (q .1) (entered-clean J s (o + cents J v) (suc item) vs (drop 1 es) (within-later v vs es h)))
+
+as-marks : (marks es : List ℕ) → length (entered marks es) ≡ length marks
+unfolding entered
+as-marks [] es = refl
+as-marks (mark ∷ later) es = ap suc (as-marks later (drop 1 es))
 
 pub entered-length : (J s o : ℕ) (vs es : List ℕ) → length (entered (marksFrom J s o vs) es) ≡ length vs
-unfolding entered marksFrom
-entered-length J s o [] es = refl
-entered-length J s o (v ∷ vs) es = omega (arith, entered-length J s (o + cents J v) vs (drop 1 es))
+entered-length J s o vs es = as-marks (marksFrom J s o vs) es ∙ marks-length J s o vs

@@ -10,15 +10,16 @@ use Rattle.split.specs.Rounds.{rounds, intervals}
 use Rattle.split.specs.Split.{splitOf, figuresFrom, fullMarks}
 use Rattle.draw.specs.Points.{points, covers}
 use Rattle.draw.specs.Row.{marksFrom, drawMarks, ones}
-use Rattle.draw.specs.Draw.{figuresFor, drawOf}
+use Rattle.split.specs.Start.{figuresFor}
+use Rattle.draw.specs.Draw.{drawOf}
 use Rattle.project.specs.Lines.{amount, linesFrom, linesOf, total, amountsOf}
 use Rattle.project.specs.Project.{checkedLine, checkedFrom, checkedLines, projectionAt, projectOf}
-use Rattle.precision.specs.Sorting.{sortDown}
+use Rattle.sorting.specs.Sorting.{sortDown}
 use Rattle.precision.specs.Precision.{hundredths, roundUp, precisionOf}
-use Rattle.judge.specs.Judge.{verdictOf, concluded, judgedLines, judgedAt, judgedFigures, judgedLedger, judgeOf}
+use Rattle.judge.specs.Judge.{verdictOf, concluded, judgedWith, judgedLines, judgedAt, judgedFigures, judgedLedger, judgeOf}
 use Rattle.demands.specs.Starts.{sumBelow, entered}
 use Rattle.demands.specs.Practice.{withMark, found, practice, AllFound}
 
 pub all-found : AllFound practice
-unfolding practice found withMark sizeOf sizeAt levelOf rf table divUp splitOf figuresFrom ledger.ledgerOf ledger.linesOf ledger.linesFrom rounds intervals fullMarks sumBelow entered drawOf figuresFor drawMarks marksFrom ones covers points projectOf projectionAt checkedLines checkedFrom checkedLine linesOf linesFrom total amountsOf amount judgeOf judgedLedger judgedFigures judgedAt judgedLines concluded verdictOf precisionOf hundredths roundUp sortDown stepOf
+unfolding practice found withMark sizeOf sizeAt levelOf rf table divUp splitOf figuresFrom ledger.ledgerOf ledger.runningTotal ledger.runningFrom rounds intervals fullMarks sumBelow entered drawOf figuresFor drawMarks marksFrom ones covers points projectOf projectionAt checkedLines checkedFrom checkedLine linesOf linesFrom total amountsOf amount judgeOf judgedLedger judgedFigures judgedAt judgedLines judgedWith concluded verdictOf precisionOf hundredths roundUp sortDown stepOf
 all-found = refl

@@ -1,14 +1,13 @@
 -- Sums over all starts, and that a line is drawn at as many starts as it has cents. Assumes nothing.
-use Prim.Native.Nat.{ℕ, zero, suc, _+_, _*_, _-_, _/_, _%_, _≤_, _<_}
-use native.Mathlib.Nat.{suc-mul, add-mul, one-mul, div-eq-of-lt-le, div-add-mod', mod-lt, mul-comm, zero-mul}
+use Prim.Native.Nat.{ℕ, zero, suc, _+_, _*_, _/_, _%_, _≤_, _<_}
+use native.Mathlib.Nat.{suc-mul, add-mul, div-add-mod', mod-lt, mul-comm, zero-mul}
 use native.Mathlib.Omega.{arith}
 use mathlib.Core.Path.{_≡_, refl, sym}
 use mathlib.Core.Bool.{Bool, true, false}
 use borrow.Author.Tests.{ltb-true, ltb-false, lt-ltb}
 use lib.Dec.{ltb}
-use Rattle.terms.specs.Numbers.{divUp}
 use Rattle.draw.specs.Points.{points, covers}
-use Rattle.draw.proofs.Points.{points-step}
+use Rattle.draw.proofs.Points.{points-step, points-at}
 use Rattle.demands.specs.Starts.{sumBelow, oneIf}
 
 pub sum-cong : (n : ℕ) (f g : ℕ → ℕ) → ((s : ℕ) → s < n → f s ≡ g s) → sumBelow n f ≡ sumBelow n g
@@ -47,23 +46,6 @@ sum-below zero r h = omega arith
 sum-below (suc n) r h = below-one n r (ltb n r) refl h (sum-below n r)
 
 -- the points before cent c, over all starts, are c
-module _ (J s c : ℕ) (start : s < J) where
-  points-by : (b : Bool) → ltb s (c % J) ≡ b → points J s c ≡ c / J + oneIf b
-  unfolding points divUp
-  points-by true e =
-      let l : s < c % J = ltb-true s (c % J) e in
-      div-eq-of-lt-le J
-      (omega (arith, div-add-mod' c J, add-mul (c / J) 1 J, one-mul J))
-      (omega (arith, div-add-mod' c J, mod-lt c {m = J} (omega arith), add-mul (c / J) 1 J, add-mul (c / J + 1) 1 J, one-mul J))
-  points-by false e =
-      let l : c % J ≤ s = ltb-false s (c % J) e in
-      div-eq-of-lt-le J
-      (omega (arith, div-add-mod' c J, add-mul (c / J) 0 J, zero-mul J))
-      (omega (arith, div-add-mod' c J, add-mul (c / J) 0 J, add-mul (c / J + 0) 1 J, one-mul J, zero-mul J))
-
-  points-at : points J s c ≡ c / J + oneIf (ltb s (c % J))
-  points-at = points-by (ltb s (c % J)) refl
-
 points-all : (J c : ℕ) → 0 < J → sumBelow J (λ s. points J s c) ≡ c
 points-all J c some =
     omega (

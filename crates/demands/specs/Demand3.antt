@@ -1,5 +1,4 @@
--- Demand 3, over the answers of the draw and the projection: the draw is fair, and the projection never lets an error be lost. These are
--- definitions: nothing is assumed.
+-- Demand 3, over the answers of the draw and the projection: a fair draw, and no error is lost in projecting. Definitions: nothing is assumed.
 use Prim.Native.Nat.{ℕ, _+_, _*_, _≤_, _<_}
 use mathlib.Core.Path.{_≡_}
 use mathlib.Core.List.{List, []}
@@ -7,7 +6,8 @@ use lib.Dec.{eqb}
 use lib.ListN.{length, getD}
 use Rattle.terms.specs.Outcome.{Outcome, accepted, refused, left}
 use Rattle.split.specs.declared.Figures.{Figures}
-use Rattle.draw.specs.Draw.{figuresFor, marksAt, drawOf}
+use Rattle.split.specs.Start.{figuresFor}
+use Rattle.draw.specs.Draw.{marksAt, drawOf}
 use Rattle.project.specs.declared.Projection.{Projection}
 use Rattle.project.specs.Project.{projectOf}
 use Rattle.demands.specs.Starts.{sumBelow, oneIf, entered, sampledError, fullError}

@@ -1,11 +1,10 @@
--- The practice sheet: its cases marked *, each what is asked and what the sheet says, in one list; and what the operations' own definitions
--- find. These are definitions: nothing is assumed.
+-- The practice sheet's cases marked *, in one list: what is asked, what the sheet says, what the definitions find. Definitions: nothing is assumed.
 use Prim.Native.Nat.{ℕ, suc, _+_, _*_}
 use mathlib.Core.Path.{_≡_}
 use mathlib.Core.List.{List, [], _∷_, map}
 use lib.Dec.{eqb}
 use lib.ListN.{length, getD}
-use Rattle.terms.specs.Outcome.{Outcome, accepted, refused, after, left}
+use Rattle.terms.specs.Outcome.{Outcome, accepted, refused, after}
 use Rattle.terms.specs.Numbers.{pick, sum}
 use Rattle.size.specs.Size.{sizeOf}
 use Rattle.split.specs.Rounds.{intervals}

@@ -1,5 +1,4 @@
--- Sums over all starts, the errors that are entered at a start, and the true errors of the sampled and of the full lines. These are
--- definitions: nothing is assumed.
+-- Sums over all starts, the errors entered at a start, and the true errors of sampled and of full lines. Definitions: nothing is assumed.
 use Prim.Native.Nat.{ℕ, zero, suc, _+_, _≤_}
 use mathlib.Core.Bool.{Bool}
 use mathlib.Core.List.{List, [], _∷_}

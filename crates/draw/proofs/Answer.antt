@@ -1,49 +1,49 @@
--- From the split's answer to the draw's, as the code meets it. Assumes nothing.
-use mathlib.Core.Path.{_≡_, sym, ap, _∙_}
+-- From the figures for a start to the draw's answer, as the code meets it. Assumes nothing.
+use mathlib.Core.Path.{_≡_, refl, sym, ap, _∙_}
 use mathlib.Core.List.{List}
-use mathlib.Core.Logic.{⊎-elim}
-use Prim.Native.Nat.{ℕ, _≤_, _<_}
-use native.Mathlib.Nat.{eq-zero-or-pos}
+use Prim.Native.Nat.{ℕ}
 use native.Mathlib.Omega.{arith}
-use borrow.Author.Tests.{lt-ltb, le-ltb, eq-eqb, ne-eqb}
-use Rattle.terms.specs.Outcome.{Outcome, accepted, refused, after}
+use lib.ListN.{length}
+use Rattle.terms.specs.declared.Refusal.{Refusal}
+use Rattle.terms.specs.Outcome.{accepted, after, left}
 use Rattle.split.specs.declared.Figures.{Figures}
-use Rattle.split.specs.Split.{splitOf}
-use Rattle.draw.specs.Draw.{startIn, figuresFor, marksAt, drawOf}
-use Rattle.draw.specs.Row.{drawMarks, ones}
+use Rattle.split.specs.declared.SplitAnswer.{SplitAnswer}
+use Rattle.split.specs.declared.SplitAnswer.the-variants as split
+use Rattle.split.specs.Split.{splitSays}
+use Rattle.split.specs.Start.{figuresFor, FiguresForPromise}
+use Rattle.split.proofs.Facts.{SplitFacts}
+use Rattle.split.proofs.Start.{start-facts}
+use Rattle.draw.specs.declared.DrawAnswer.the-variants.{Drawn, Refused}
+use Rattle.draw.specs.Row.{ones}
+use Rattle.draw.specs.Draw.{marksAt, drawOf, Markable, Marked, DrawPromise}
 
--- the figures for a start are what follows from the split's outcome
-pub from-split : (ledger : List ℕ) (n start beside : ℕ) {o : Outcome Figures} → o ≡ splitOf ledger n beside → after (startIn start) o ≡ figuresFor ledger n start beside
-unfolding figuresFor
-from-split ledger n start beside e = ap (after (startIn start)) e
+-- the draw is what follows from the figures for its start
+from-figures : (ledger : List ℕ) (n start beside : ℕ) → after (λ f. accepted (ones (marksAt ledger start f))) (figuresFor ledger n start beside) ≡ drawOf ledger n start beside
+unfolding drawOf
+from-figures ledger n start beside = refl
 
--- where the start stands to the interval
-module _ (start : ℕ) (f : Figures) where
-  pub start-below : start < f .interval → accepted f ≡ startIn start f
-  start-below h =
-      let some : f .interval ≡ 0 → ⊥ = λ z. omega arith in
-      sym (simp (ne-eqb _ _ some, lt-ltb _ _ h))
+module _ {ledger : List ℕ} {n start : ℕ} {marks : List ℕ} {r : SplitAnswer} where
+  pub draw-refused : {why : Refusal} → r ≡ split.Refused why → FiguresForPromise ledger n start (length marks) r → DrawPromise ledger n start marks (Refused why) marks
+  draw-refused is p =
+      let e = sym (ap splitSays is) ∙ p .answer in
+      record { answer = ap (after (λ f. accepted (ones (marksAt ledger start f)))) e ∙ from-figures ledger n start (length marks); marks-left = ap (left (marksAt ledger start) marks) e }
 
-  pub start-none : f .interval ≤ start → start ≤ 0 → accepted f ≡ startIn start f
-  start-none h l =
-      let none : f .interval ≡ 0 = omega arith in
-      let first : start ≡ 0 = omega arith in
-      sym (simp (eq-eqb _ _ none, eq-eqb _ _ first))
+  pub draw-drawn : {f : Figures} {drawn : ℕ} {marks′ : List ℕ} → r ≡ split.Split f → FiguresForPromise ledger n start (length marks) r → Marked (f .interval) start ledger drawn marks′ →
+      DrawPromise ledger n start marks (Drawn drawn) marks′
+  draw-drawn is p m =
+      let e = sym (ap splitSays is) ∙ p .answer in
+      record {
+        answer = ap accepted (m .count) ∙ ap (after (λ f. accepted (ones (marksAt ledger start f)))) e ∙ from-figures ledger n start (length marks);
+        marks-left = m .marks ∙ ap (left (marksAt ledger start) marks) e;
+      }
 
-  pub start-outside : f .interval ≤ start → 0 < start → refused 11 0 ≡ startIn start f
-  start-outside h l =
-      let late : start ≡ 0 → ⊥ = λ z. omega arith in
-      ⊎-elim
-      (λ (z : f .interval ≡ 0). sym (simp (eq-eqb _ _ z, ne-eqb _ _ late)))
-      (λ (s : 0 < f .interval). let some : f .interval ≡ 0 → ⊥ = λ z. omega arith in sym (simp (ne-eqb _ _ some, le-ltb _ _ h)))
-      (eq-zero-or-pos (f .interval))
+-- what the marking asks
+module _ {ledger : List ℕ} {n start beside : ℕ} {r : SplitAnswer} {f : Figures} (is : r ≡ split.Split f) (p : FiguresForPromise ledger n start beside r) where
+  known : SplitFacts ledger n beside f
+  known = start-facts ledger n start beside f (sym (p .answer) ∙ ap splitSays is) .facts
 
--- the draw's own answer
-module _ (ledger : List ℕ) (n start beside : ℕ) where
-  pub draw-refused : {k p : ℕ} → refused k p ≡ figuresFor ledger n start beside → refused k p ≡ drawOf ledger n start beside
-  unfolding drawOf
-  draw-refused e = ap (after (λ f. accepted (ones (marksAt ledger start f)))) e
+  pub draw-markable : Markable (f .interval) ledger
+  draw-markable = record { summed = known .ledger-good .most; narrow = omega (arith, known .most) }
 
-  pub draw-drawn : (f : Figures) (drawn : ℕ) → accepted f ≡ figuresFor ledger n start beside → drawn ≡ ones (drawMarks (f .interval) start ledger) → accepted drawn ≡ drawOf ledger n start beside
-  unfolding drawOf
-  draw-drawn f drawn e d = ap accepted d ∙ ap (after (λ f. accepted (ones (marksAt ledger start f)))) e
+  pub draw-same : beside ≡ length ledger
+  draw-same = known .ledger-good .same

@@ -1,6 +1,5 @@
 -- What the proofs of several functions use, and what callers cite.
 pub mod Points
-pub mod Walk
 pub mod Row
 pub mod Marking
 pub mod Answer

@@ -1,13 +1,14 @@
--- The drawing points: how many lie before a cent, and that the test `covers` agrees with the words `Covers`. Assumes nothing.
-use Prim.Native.Nat.{ℕ, _+_, _*_, _-_, _≤_, _<_}
-use native.Mathlib.Nat.{add-mul, one-mul, lt-of-not-le, le-of-suc-le-suc}
+-- The drawing points: how many lie before a cent, that the test `covers` agrees with the words `Covers`, and the next point from a cent on.
+-- Assumes nothing.
+use Prim.Native.Nat.{ℕ, _+_, _*_, _-_, _/_, _%_, _≤_, _<_}
+use native.Mathlib.Nat.{div-add-mod', mod-lt, div-eq-of-lt-le, add-mul, one-mul, add-zero, zero-mul, zero-sub, div-eq-of-lt, eq-zero-or-pos, lt-of-not-le, le-of-suc-le-suc}
 use native.Mathlib.Omega.{arith}
 use mathlib.Core.Path.{_≡_, refl}
 use mathlib.Core.Bool.{Bool, true, false}
-use mathlib.Core.Logic.{_↔_}
-use borrow.Author.Tests.{ltb-true, ltb-false}
+use mathlib.Core.Logic.{_↔_, ⊎-elim}
+use borrow.Author.Tests.{ltb-true, ltb-false, lt-ltb, le-ltb}
 use lib.Dec.{T, ltb, lt→ltb, ltb→lt}
-use Rattle.terms.specs.Numbers.{pick}
+use Rattle.terms.specs.Numbers.{pick, divUp}
 use Rattle.terms.proofs.Rounding.{below-divUp, divUp-above}
 use Rattle.draw.specs.Points.{Covers, points, covers}
 
@@ -38,16 +39,73 @@ covers-agrees J s o v some = (
 
 -- a line of at most J cents covers one point or none: the count after it is the count before it, and one more where it covers one
 module _ (J s o v : ℕ) (some : 0 < J) (small : v ≤ J) where
-  counted : (b : Bool) → covers J s o v ≡ b → points J s (o + v) ≡ points J s o + pick b 1 0
+  counts-by : (b : Bool) → covers J s o v ≡ b → points J s (o + v) ≡ points J s o + pick b 1 0
   unfolding covers
-  counted true e =
+  counts-by true e =
       let l : points J s o < points J s (o + v) = ltb-true (points J s o) (points J s (o + v)) e in
       let p : o ≤ s + points J s o * J = point-at-least J s o some (points J s o) (omega arith) in
       omega (arith, at-least-point J s (o + v) some (points J s o + 1) (omega (arith, add-mul (points J s o) 1 J, one-mul J)))
-  counted false e =
+  counts-by false e =
       let l : points J s (o + v) ≤ points J s o = ltb-false (points J s o) (points J s (o + v)) e in
       let p : o + v ≤ s + points J s (o + v) * J = point-at-least J s (o + v) some (points J s (o + v)) (omega arith) in
       omega (arith, at-least-point J s o some (points J s (o + v)) (omega arith))
 
   pub points-step : points J s (o + v) ≡ points J s o + pick (covers J s o v) 1 0
-  points-step = counted (covers J s o v) refl
+  points-step = counts-by (covers J s o v) refl
+
+-- with a start below the interval, by the remainder of the cent
+module _ (J s c : ℕ) (start : s < J) where
+  points-by : (b : Bool) → ltb s (c % J) ≡ b → points J s c ≡ c / J + pick b 1 0
+  unfolding points divUp
+  points-by true e =
+      let l : s < c % J = ltb-true s (c % J) e in
+      div-eq-of-lt-le J
+      (omega (arith, div-add-mod' c J, add-mul (c / J) 1 J, one-mul J))
+      (omega (arith, div-add-mod' c J, mod-lt c {m = J} (omega arith), add-mul (c / J) 1 J, add-mul (c / J + 1) 1 J, one-mul J))
+  points-by false e =
+      let l : c % J ≤ s = ltb-false s (c % J) e in
+      div-eq-of-lt-le J
+      (omega (arith, div-add-mod' c J, add-mul (c / J) 0 J, zero-mul J))
+      (omega (arith, div-add-mod' c J, add-mul (c / J) 0 J, add-mul (c / J + 0) 1 J, one-mul J, zero-mul J))
+
+  pub points-at : points J s c ≡ c / J + pick (ltb s (c % J)) 1 0
+  points-at = points-by (ltb s (c % J)) refl
+
+-- the first drawing point that does not lie before a cent
+abbrev pub nextPoint : ℕ → ℕ → ℕ → ℕ
+nextPoint J s o = s + points J s o * J
+
+pub point-start : (J s : ℕ) → nextPoint J s 0 ≡ s
+unfolding points divUp
+point-start J s =
+    ⊎-elim
+    (λ z. rw z (omega arith))
+    (λ p. rw (zero-sub s, div-eq-of-lt {n = 0 + (J - 1)} {m = J} (omega arith)) (omega (arith, zero-mul J)))
+    (eq-zero-or-pos J)
+
+-- a sampled line covers a point exactly when the next one lies before its end, and then the next one is one interval on
+module _ (J s o v : ℕ) (small : v ≤ J) where
+  pub next-covered : 0 < J → nextPoint J s o < o + v → covers J s o v ≡ true
+  unfolding covers
+  next-covered p l = lt-ltb _ _ (before-point J s (o + v) p (points J s o) l)
+
+  pub next-missed : o + v ≤ nextPoint J s o → covers J s o v ≡ false
+  unfolding covers
+  next-missed l =
+      le-ltb _ _
+      (⊎-elim
+      (λ (z : J ≡ 0). let q : o + v ≡ o = omega arith in rw q (omega arith))
+      (λ p. at-least-point J s (o + v) p (points J s o) l)
+      (eq-zero-or-pos J))
+
+  pub next-moves : 0 < J → nextPoint J s o < o + v → nextPoint J s (o + v) ≡ nextPoint J s o + J
+  next-moves p l =
+      let q : points J s (o + v) ≡ points J s o + 1 = rw (points-step J s o v p small, next-covered p l) in
+      rw q (omega (arith, add-mul (points J s o) 1 J, one-mul J))
+
+  pub next-stays : o + v ≤ nextPoint J s o → nextPoint J s (o + v) ≡ nextPoint J s o
+  next-stays l =
+      ⊎-elim
+      (λ (z : J ≡ 0). let q : o + v ≡ o = omega arith in rw q)
+      (λ p. let q : points J s (o + v) ≡ points J s o + 0 = rw (points-step J s o v p small, next-missed l) in rw (q, add-zero))
+      (eq-zero-or-pos J)

@@ -12,7 +12,9 @@ use lib.ListN.{length, getD, drop, drop-of-length-le}
 use lib.Seq.{drop-cons}
 use Rattle.terms.specs.Numbers.{pick, sum}
 use Rattle.terms.proofs.Tests.{by-test}
+use Rattle.draw.specs.declared.Place.{Place}
 use Rattle.draw.specs.Row.{full, cents, rowCents, firstCent, itemAt}
+use Rattle.draw.specs.Found.{Before, Found}
 
 -- the row is no longer than the ledger's total
 cents-le : (f : Bool) (v : ℕ) → pick f 0 v ≤ v
@@ -89,22 +91,23 @@ item-only J ledger c item inside covered =
     search-here J ledger c item (firstCent J ledger item) (search-from J ledger c item (firstCent J ledger item) (omega arith) refl (covered .0)) inside (omega (arith, covered .0, covered .1))
 
 -- The search as the loop makes it, by how far the cent lies ahead of the item's first cent.
-pub record Ahead (J : ℕ) (ledger : List ℕ) (c item ahead : ℕ) : Type 0 where
+pub record Searching (J : ℕ) (ledger : List ℕ) (c item ahead : ℕ) : Type 0 where
   pub near : ahead ≤ c
   pub at : Search J ledger c item (c - ahead)
 
-pub ahead-from : (J : ℕ) (ledger : List ℕ) (c item first : ℕ) → item ≤ length ledger → first ≡ firstCent J ledger item → first ≤ c → Ahead J ledger c item (c - first)
-ahead-from J ledger c item first h e l = record { near = omega arith; at = search-from J ledger c item (c - (c - first)) h (omega arith) (omega arith) }
+pub searching-from : {J : ℕ} {ledger : List ℕ} {c : ℕ} {from : Place} → Before J ledger c from → Searching J ledger c (from .item .0) (c - from .first .0)
+searching-from {J} {ledger} {c} {from} b =
+    record { near = omega arith; at = search-from J ledger c (from .item .0) (c - (c - from .first .0)) (b .inside) (omega (arith, b .begins, b .ahead)) (omega arith) }
 
-module _ (J : ℕ) (ledger : List ℕ) (c item ahead : ℕ) (by : Ahead J ledger c item ahead) where
-  module _ (more : item < length ledger) (taken : ℕ) (takes : taken ≡ cents J (getD ledger item 0)) where
-    pub ahead-here : ahead < taken → item ≡ itemAt J ledger c
-    ahead-here l = search-here J ledger c item (c - ahead) (by .at) more (omega (arith, by .near, takes))
+module _ {J : ℕ} {ledger : List ℕ} {c item ahead : ℕ} (by : Searching J ledger c item ahead) where
+  module _ (more : item < length ledger) {taken : ℕ} (takes : taken ≡ cents J (getD ledger item 0)) where
+    pub searching-here : ahead < taken → Found J ledger c (record { item = record { 0 = item }; first = record { 0 = c - ahead } })
+    searching-here l = record { item = search-here J ledger c item (c - ahead) (by .at) more (omega (arith, by .near, takes)); begins = by .at .begins }
 
-    pub ahead-more : taken ≤ ahead → Ahead J ledger c (item + 1) (ahead - taken)
-    ahead-more l =
+    pub searching-more : taken ≤ ahead → Searching J ledger c (item + 1) (ahead - taken)
+    searching-more l =
         let e : (c - ahead) + cents J (getD ledger item 0) ≡ c - (ahead - taken) = omega (arith, by .near, takes) in
         record { near = omega (arith, by .near); at = rw e at (search-more J ledger c item (c - ahead) (by .at) more (omega (arith, by .near, takes))) }
 
-  pub ahead-end : length ledger ≤ item → item ≡ itemAt J ledger c
-  ahead-end h = search-end J ledger c item (c - ahead) (by .at) h
+  pub searching-end : length ledger ≤ item → Found J ledger c (record { item = record { 0 = item }; first = record { 0 = c - ahead } })
+  searching-end h = record { item = search-end J ledger c item (c - ahead) (by .at) h; begins = by .at .begins }

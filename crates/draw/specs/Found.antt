@@ -1,4 +1,4 @@
--- The search along the row: where it may begin, and what it finds. These are definitions: nothing is assumed.
+-- The search along the row: where it may begin, and what it finds. Definitions: nothing is assumed.
 use Prim.Native.Nat.{ℕ, _≤_}
 use mathlib.Core.Path.{_≡_}
 use mathlib.Core.List.{List}

@@ -1,4 +1,4 @@
--- The drawing points, start, start + J, start + 2J and so on, and the lines that cover one. These are definitions: nothing is assumed.
+-- The drawing points, start, start + J, start + 2J and so on, and the lines that cover one. Definitions: nothing is assumed.
 use Prim.Native.Nat.{ℕ, _+_, _*_, _-_, _≤_, _<_}
 use mathlib.Core.Bool.{Bool}
 use lib.Dec.{ltb}

@@ -1,4 +1,4 @@
--- The row: the sampled lines laid end to end in ledger order, full lines taken out; and the marks. These are definitions: nothing is assumed.
+-- The row: the sampled lines laid end to end in ledger order, full lines taken out; and the marks. Definitions: nothing is assumed.
 use Prim.Native.Nat.{ℕ, suc, _+_, _-_}
 use mathlib.Core.Bool.{Bool}
 use mathlib.Core.List.{List, [], _∷_, map}

@@ -1,38 +1,19 @@
-// The draw: step 4, and the walk along the row that the projection shares.
-use split::Figures;
+// The draw: step 4, from point to point along the row.
 use split::SplitAnswer;
 use terms::Cent;
 use terms::Item;
 use terms::Refusal;
 ghost use mathlib.Core.Path.{_≡_};
-ghost use Prim.Native.Nat.{_≤_};
 ghost use lib.ListN.{length};
-ghost use Rattle.terms.specs.Numbers.{sum};
-ghost use Rattle.terms.specs.Limits.{mostTotal};
-ghost use Rattle.terms.specs.Outcome.{left};
-ghost use Rattle.split.specs.Split.{splitSays, fullMarks};
-ghost use Rattle.draw.specs.Row.{cents, drawMarks, ones};
-ghost use Rattle.draw.specs.Draw.{drawSays, startIn, figuresFor, marksAt, drawOf};
+ghost use Rattle.split.specs.Split.{fullMarks};
+ghost use Rattle.draw.specs.Row.{cents};
+ghost use Rattle.draw.specs.Draw.{Markable, Marked, DrawPromise};
 ghost use Rattle.draw.specs.Found.{Before, Found};
-ghost use Rattle.draw.specs.Walk.{stepOf};
 
 // How many lines are drawn, or the first refusal.
 pub enum DrawAnswer {
     Drawn(u64),
     Refused(Refusal),
-}
-
-// How far the next drawing point lies from the line after this one, where it lies `next` cents from this one's first cent.
-pub fn step_over(value: u64, interval: u64, next: u64) -> u64
-    ensures { λ r. ⌜ r ≡ stepOf interval next value ⌝ }
-{
-    if value > interval {
-        return next;
-    }
-    if next < value {
-        return next + (interval - value);
-    }
-    next - value
 }
 
 // The cents that a line takes up in the row: a full line takes up none.
@@ -77,72 +58,53 @@ fn item_at(ledger: &[u64], interval: u64, from: Place, cent: Cent) -> Place
 }
 
 // Marks the drawn lines 1, from point to point to the end of the row, and answers how many they are.
-fn mark_drawn(ledger: &[u64], interval: u64, start: u64, marks: &mut [u8]) -> u64
-    requires { ⌜ (sum (now ledger) ≤ mostTotal) × (interval ≤ mostTotal) × (now marks ≡ fullMarks interval (now ledger)) ⌝ }
-    ensures { λ r. ⌜ (now (marks .exit) ≡ drawMarks interval start (now (ledger .entry))) × (r ≡ ones (drawMarks interval start (now (ledger .entry)))) ⌝ }
+fn mark_drawn(ledger: &[u64], interval: u64, start: Cent, marks: &mut [u8]) -> u64
+    requires { ⌜ Markable interval (now ledger) × (now marks ≡ fullMarks interval (now ledger)) ⌝ }
+    ensures { λ r. ⌜ Marked interval (start .0) (now (ledger .entry)) r (now (marks .exit)) ⌝ }
 {
-    let mut at = Place {
+    let first = Place {
         item: Item(0),
         first: Cent(0),
     };
-    let mut point = Cent(start);
+    let mut point = start;
+    let mut here = item_at(ledger, interval, first, point);
     let mut drawn: u64 = 0;
-    while at.item.0 < ledger.len() {
-        let here = item_at(ledger, interval, at, point);
+    while here.item.0 < ledger.len() {
         let item = here.item.0;
-        if item >= ledger.len() {
-            return drawn;
-        }
         marks[item] = 1;
         drawn += 1;
         let end = here.first.0 + ledger[item];
         let later = item + 1;
-        at = Place {
+        let after = Place {
             item: Item(later),
             first: Cent(end),
         };
         let further = point.0 + interval;
         point = Cent(further);
+        here = item_at(ledger, interval, after, point);
     }
     drawn
 }
 
-// The figures, or 11 where the start does not fit their interval.
-pub fn start_in(start: u64, figures: Figures) -> SplitAnswer
-    ensures { λ r. ⌜ splitSays r ≡ startIn start figures ⌝ }
+// Marks every line, 2 for full, 1 for drawn and 0 for the others, and answers how many are drawn.
+pub fn mark_lines(ledger: &[u64], interval: u64, start: Cent, marks: &mut [u8]) -> u64
+    requires { ⌜ Markable interval (now ledger) × (length (now marks) ≡ length (now ledger)) ⌝ }
+    ensures { λ r. ⌜ Marked interval (start .0) (now (ledger .entry)) r (now (marks .exit)) ⌝ }
 {
-    if start < figures.interval {
-        return SplitAnswer::Split(figures);
-    }
-    if start > 0 {
-        return SplitAnswer::Refused(Refusal::StartOutOfRange);
-    }
-    SplitAnswer::Split(figures)
-}
-
-// The split's figures, or 11: what the draw and the projection start from. `beside` is the length of the buffer that is lent
-// with the ledger.
-pub fn figures_for(ledger: &[u64], n: u64, start: u64, beside: usize) -> SplitAnswer
-    ensures { λ r. ⌜ splitSays r ≡ figuresFor (now (ledger .entry)) n start beside ⌝ }
-{
-    match split::split_figures(ledger, n, beside) {
-        SplitAnswer::Refused(why) => SplitAnswer::Refused(why),
-        SplitAnswer::Split(figures) => start_in(start, figures),
-    }
+    split::mark_full(ledger, interval, marks);
+    mark_drawn(ledger, interval, start, marks)
 }
 
 // The draw: how many lines it marks 1, and the marks, which a refusal leaves as they were.
 pub fn draw(ledger: &[u64], n: u64, start: u64, marks: &mut [u8]) -> DrawAnswer
-    ensures answer { λ r. ⌜ drawSays r ≡ drawOf (now (ledger .entry)) n start (length (now (marks .entry))) ⌝ }
-    ensures marked { λ r. ⌜ now (marks .exit)
-        ≡ left (marksAt (now (ledger .entry)) start) (now (marks .entry)) (figuresFor (now (ledger .entry)) n start (length (now (marks .entry)))) ⌝ }
+    ensures { λ r. ⌜ DrawPromise (now (ledger .entry)) n start (now (marks .entry)) r (now (marks .exit)) ⌝ }
 {
-    match figures_for(ledger, n, start, marks.len()) {
+    let first = Cent(start);
+    match split::figures_for(ledger, n, first, marks.len()) {
         SplitAnswer::Refused(why) => DrawAnswer::Refused(why),
         SplitAnswer::Split(figures) => {
             let interval = figures.interval;
-            split::mark_full(ledger, interval, marks);
-            let drawn = mark_drawn(ledger, interval, start, marks);
+            let drawn = mark_lines(ledger, interval, first, marks);
             DrawAnswer::Drawn(drawn)
         }
     }

@@ -3,4 +3,5 @@ pub mod Runs
 pub mod Cuts
 pub mod Digits
 pub mod Lines
+pub mod TextLines
 pub mod ReadBack

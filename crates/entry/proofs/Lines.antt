@@ -1,11 +1,11 @@
 -- The record of a line, field by field as the code reads it. Assumes nothing.
-use mathlib.Core.Path.{_≡_, sym, ap, _∙_}
+use mathlib.Core.Path.{_≡_, refl, sym, ap, _∙_}
 use mathlib.Core.List.{List, _∷_}
-use Prim.Native.Nat.{ℕ, _-_, _≤_, _<_}
+use Prim.Native.Nat.{ℕ, zero, suc, _-_, _≤_, _<_}
 use native.Mathlib.Omega.{arith}
 use lib.ListN.{length, getD, take, drop}
 use borrow.Author.Tests.{eq-eqb, ne-eqb}
-use Rattle.entry.specs.Records.{numberOf, withNumber, next, ended, planFrom, wordFrom, valueFrom, errorFrom, recordWith, recordOf, recordIn}
+use Rattle.entry.specs.Records.{numberOf, withNumber, next, ended, oneMore, noNumbers, numbersFrom, countOf, madeOf, withNumbers, recordWith, recordBy, recordIn}
 use Rattle.entry.specs.Steps.{Reached, fieldsAt, nextSays, nextPlace, NextNumber}
 use Rattle.entry.specs.declared.Wrong.{Wrong}
 use Rattle.entry.specs.declared.Wrong.the-variants.{UnknownKind, NumberMissing, FieldTooMany}
@@ -14,8 +14,11 @@ use Rattle.entry.specs.declared.NumberAnswer.the-variants.{Number, NoNum
 use Rattle.entry.specs.declared.NextAnswer.{NextAnswer}
 use Rattle.entry.specs.declared.NextAnswer.the-variants.{Next, NoNext}
 use Rattle.entry.specs.declared.Run.the-variants.{Blanks, Field}
+use Rattle.entry.specs.declared.Numbers.{Numbers}
+use Rattle.entry.specs.declared.NumbersAnswer.{NumbersAnswer}
+use Rattle.entry.specs.declared.NumbersAnswer.the-variants.{Read, Unread}
 use Rattle.entry.specs.declared.Record.{Record}
-use Rattle.entry.specs.declared.Record.the-variants.{Nothing, Plan, Word, Value, Error, Unreadable}
+use Rattle.entry.specs.declared.Record.the-variants.{Nothing, Unreadable}
 use Rattle.entry.proofs.Cuts.{no-field, some-field-left, first-field, field-length, field-byte}
 
 -- the next number
@@ -23,10 +26,10 @@ module _ {line : List ℕ} {at from : ℕ} (blanks : Reached Blanks line at from
   pub number-missing : from ≡ length line → NextNumber line at (NoNext NumberMissing)
   number-missing e = record { within = omega arith; same = λ more. ap (λ (fields : List (List ℕ)). next fields more) (no-field blanks e) }
 
-  module _ (inside : from < length line) {to : ℕ} (field : Reached Field line from to) {n : NumberAnswer} (read : n ≡ numberOf (take (to - from) (drop from line))) where
-    same-next : (more : ℕ → List (List ℕ) → Record) → next (fieldsAt line at) more ≡ withNumber n (λ value. more value (fieldsAt line to))
+  module _ (inside : from ≡ length line → ⊥) {to : ℕ} (field : Reached Field line from to) {n : NumberAnswer} (read : n ≡ numberOf (take (to - from) (drop from line))) where
+    same-next : (more : ℕ → List (List ℕ) → NumbersAnswer) → next (fieldsAt line at) more ≡ withNumber n (λ value. more value (fieldsAt line to))
     same-next more =
-        ap (λ (fields : List (List ℕ)). next fields more) (first-field blanks inside field)
+        ap (λ (fields : List (List ℕ)). next fields more) (first-field blanks (omega (arith, inside, blanks .within)) field)
         ∙ ap (λ (m : NumberAnswer). withNumber m (λ value. more value (fieldsAt line to))) (sym read)
 
     pub number-wrong : {wrong : Wrong} → n ≡ NoNumber wrong → NextNumber line at (NoNext wrong)
@@ -38,119 +41,104 @@ module _ {line : List ℕ} {at from : ℕ} (blanks : Reached Blanks line at from
         record { within = field .within; same = λ more. same-next more ∙ ap (λ (m : NumberAnswer). withNumber m (λ value. more value (fieldsAt line to))) e }
 
 -- the end of a line
-module _ {line : List ℕ} {at from : ℕ} (blanks : Reached Blanks line at from) (whole : Record) where
-  pub line-ended : from ≡ length line → whole ≡ ended (fieldsAt line at) whole
-  line-ended e = sym (ap (λ (fields : List (List ℕ)). ended fields whole) (no-field blanks e))
+module _ {line : List ℕ} {at from : ℕ} (blanks : Reached Blanks line at from) (numbers : Numbers) where
+  pub line-ended : from ≡ length line → Read numbers ≡ ended (fieldsAt line at) numbers
+  line-ended e = sym (ap (λ (fields : List (List ℕ)). ended fields numbers) (no-field blanks e))
 
-  pub line-not-ended : (from ≡ length line → ⊥) → Unreadable FieldTooMany ≡ ended (fieldsAt line at) whole
-  line-not-ended h = sym (ap (λ (fields : List (List ℕ)). ended fields whole) (some-field-left blanks (omega (arith, blanks .within, h))))
+  pub line-not-ended : (from ≡ length line → ⊥) → Unread FieldTooMany ≡ ended (fieldsAt line at) numbers
+  line-not-ended h = sym (ap (λ (fields : List (List ℕ)). ended fields numbers) (some-field-left blanks (omega (arith, blanks .within, h))))
 
--- a number that was read, or was not
-module _ {line : List ℕ} {at : ℕ} {r : NextAnswer} (so : NextNumber line at r) where
-  pub onward : {value to : ℕ} → r ≡ Next value to → to ≤ length line
-  onward e = let place : nextPlace r ≡ _ = ap nextPlace e in omega (arith, so .within)
+-- the loop over a line's numbers: `left` of them are still to come from `at` on, and going on gives what the whole line does
+pub record ToCome (line : List ℕ) (from count at left : ℕ) (numbers : Numbers) : Type 0 where
+  pub within : at ≤ length line
+  pub same : numbersFrom left numbers (fieldsAt line at) ≡ numbersFrom count noNumbers (fieldsAt line from)
 
-  taken : {value to : ℕ} → r ≡ Next value to → (more : ℕ → List (List ℕ) → Record) → next (fieldsAt line at) more ≡ more value (fieldsAt line to)
-  taken e more = so .same more ∙ ap (λ (q : NextAnswer). nextSays line q more) e
+pub none-read : {line : List ℕ} {from count : ℕ} → from ≤ length line → ToCome line from count from count noNumbers
+none-read h = record { within = h; same = refl }
 
-  stopped : {wrong : Wrong} → r ≡ NoNext wrong → (more : ℕ → List (List ℕ) → Record) → next (fieldsAt line at) more ≡ Unreadable wrong
-  stopped e more = so .same more ∙ ap (λ (q : NextAnswer). nextSays line q more) e
+-- the next number, where one is still to come
+number-next : (left : ℕ) (numbers : Numbers) (fields : List (List ℕ)) → 0 < left
+    → numbersFrom left numbers fields ≡ next fields (λ value after. numbersFrom (left - 1) (oneMore numbers value) after)
+unfolding numbersFrom
+number-next zero numbers fields h = absurd (omega arith)
+number-next (suc left) numbers fields h =
+    let one : left ≡ suc left - 1 = omega arith in
+    ap (λ (n : ℕ). next fields (λ value after. numbersFrom n (oneMore numbers value) after)) one
 
--- a record by its numbers
-module _ {line : List ℕ} {at : ℕ} {r : NextAnswer} (so : NextNumber line at r) where
-  pub no-word : {wrong : Wrong} → r ≡ NoNext wrong → Unreadable wrong ≡ wordFrom (fieldsAt line at)
-  unfolding wordFrom
-  no-word e = sym (stopped so e _)
+module _ {line : List ℕ} {from count at left : ℕ} {numbers : Numbers} (so : ToCome line from count at left numbers) where
+  module _ (more : 0 < left) {r : NextAnswer} (found : NextNumber line at r) where
+    goes : numbersFrom count noNumbers (fieldsAt line from) ≡ nextSays line r (λ value after. numbersFrom (left - 1) (oneMore numbers value) after)
+    goes = sym (so .same) ∙ number-next left numbers (fieldsAt line at) more ∙ found .same (λ value after. numbersFrom (left - 1) (oneMore numbers value) after)
 
-  pub a-word : {word to : ℕ} {whole : Record} → r ≡ Next word to → whole ≡ ended (fieldsAt line to) (Word word) → whole ≡ wordFrom (fieldsAt line at)
-  unfolding wordFrom
-  a-word e w = w ∙ sym (taken so e _)
+    pub not-read : {wrong : Wrong} → r ≡ NoNext wrong → Unread wrong ≡ numbersFrom count noNumbers (fieldsAt line from)
+    not-read e = sym (goes ∙ ap (λ (q : NextAnswer). nextSays line q (λ value after. numbersFrom (left - 1) (oneMore numbers value) after)) e)
 
-  pub no-value : {wrong : Wrong} → r ≡ NoNext wrong → Unreadable wrong ≡ valueFrom (fieldsAt line at)
-  unfolding valueFrom
-  no-value e = sym (stopped so e _)
+    pub one-read : {value to : ℕ} {grown : Numbers} → r ≡ Next value to → grown ≡ oneMore numbers value → ToCome line from count to (left - 1) grown
+    one-read {value} {to} {grown} e g =
+        let place : nextPlace r ≡ to = ap nextPlace e in
+        record {
+          within = omega (arith, found .within);
+          same = ap (λ (n : Numbers). numbersFrom (left - 1) n (fieldsAt line to)) g
+              ∙ sym (goes ∙ ap (λ (q : NextAnswer). nextSays line q (λ value after. numbersFrom (left - 1) (oneMore numbers value) after)) e);
+        }
 
-  pub a-value : {value to : ℕ} {whole : Record} → r ≡ Next value to → whole ≡ ended (fieldsAt line to) (Value value) → whole ≡ valueFrom (fieldsAt line at)
-  unfolding valueFrom
-  a-value e w = w ∙ sym (taken so e _)
+  pub all-read : left ≤ 0 → {r : NumbersAnswer} → r ≡ ended (fieldsAt line at) numbers → r ≡ numbersFrom count noNumbers (fieldsAt line from)
+  unfolding numbersFrom
+  all-read h e =
+      let none : left ≡ 0 = omega arith in
+      e ∙ sym (ap (λ (n : ℕ). numbersFrom n numbers (fieldsAt line at)) none) ∙ so .same
 
-  pub no-line : {wrong : Wrong} → r ≡ NoNext wrong → Unreadable wrong ≡ errorFrom (fieldsAt line at)
-  unfolding errorFrom
-  no-line e = sym (stopped so e _)
+-- a byte that is no kind
+module _ {kind : ℕ} (not-plan : kind ≡ 0x50 → ⊥) (not-word : kind ≡ 0x57 → ⊥) (not-value : kind ≡ 0x4C → ⊥) (not-error : kind ≡ 0x45 → ⊥) where
+  pub none-counted : 0 ≡ countOf kind
+  unfolding countOf
+  none-counted = sym (simp (ne-eqb _ _ not-plan, ne-eqb _ _ not-word, ne-eqb _ _ not-value, ne-eqb _ _ not-error))
 
-  pub no-level : {wrong : Wrong} → r ≡ NoNext wrong → Unreadable wrong ≡ planFrom (fieldsAt line at)
-  unfolding planFrom
-  no-level e = sym (stopped so e _)
+  pub none-made : (numbers : Numbers) → Unreadable UnknownKind ≡ madeOf kind numbers
+  unfolding madeOf
+  none-made numbers = sym (simp (ne-eqb _ _ not-plan, ne-eqb _ _ not-word, ne-eqb _ _ not-value, ne-eqb _ _ not-error))
 
-  module _ {first to : ℕ} (one : r ≡ Next first to) {s : NextAnswer} (so₂ : NextNumber line to s) where
-    pub no-error : {wrong : Wrong} → s ≡ NoNext wrong → Unreadable wrong ≡ errorFrom (fieldsAt line at)
-    unfolding errorFrom
-    no-error e = sym (taken so one _ ∙ stopped so₂ e _)
+-- a record by its kind and its numbers
+module _ (kind : ℕ) {count : ℕ} (many : count ≡ countOf kind) (fields : List (List ℕ)) where
+  pub no-kind : count ≡ 0 → Unreadable UnknownKind ≡ recordWith kind fields
+  unfolding recordWith
+  no-kind e = sym (simp (eq-eqb _ _ (sym many ∙ e)))
 
-    pub an-error : {error end : ℕ} {whole : Record} → s ≡ Next error end → whole ≡ ended (fieldsAt line end) (Error first error) → whole ≡ errorFrom (fieldsAt line at)
-    unfolding errorFrom
-    an-error e w = w ∙ sym (taken so one _ ∙ taken so₂ e _)
+  module _ (some : count ≡ 0 → ⊥) {r : NumbersAnswer} (read : r ≡ numbersFrom count noNumbers fields) where
+    by-numbers : recordWith kind fields ≡ withNumbers kind r
+    unfolding recordWith
+    by-numbers = rw (ne-eqb (countOf kind) 0 (λ e. some (many ∙ e))) (ap (withNumbers kind) (ap (λ (n : ℕ). numbersFrom n noNumbers fields) (sym many) ∙ sym read))
 
-    pub no-te : {wrong : Wrong} → s ≡ NoNext wrong → Unreadable wrong ≡ planFrom (fieldsAt line at)
-    unfolding planFrom
-    no-te e = sym (taken so one _ ∙ stopped so₂ e _)
+    pub no-numbers : {wrong : Wrong} → r ≡ Unread wrong → Unreadable wrong ≡ recordWith kind fields
+    unfolding withNumbers
+    no-numbers e = sym (by-numbers ∙ ap (withNumbers kind) e)
 
-    module _ {te on : ℕ} (two : s ≡ Next te on) {t : NextAnswer} (so₃ : NextNumber line on t) where
-      pub no-ae : {wrong : Wrong} → t ≡ NoNext wrong → Unreadable wrong ≡ planFrom (fieldsAt line at)
-      unfolding planFrom
-      no-ae e = sym (taken so one _ ∙ taken so₂ two _ ∙ stopped so₃ e _)
-
-      pub a-plan : {ae end : ℕ} {whole : Record} → t ≡ Next ae end → whole ≡ ended (fieldsAt line end) (Plan first te ae) → whole ≡ planFrom (fieldsAt line at)
-      unfolding planFrom
-      a-plan e w = w ∙ sym (taken so one _ ∙ taken so₂ two _ ∙ taken so₃ e _)
+    pub of-numbers : {numbers : Numbers} {found : Record} → r ≡ Read numbers → found ≡ madeOf kind numbers → found ≡ recordWith kind fields
+    unfolding withNumbers
+    of-numbers e made = made ∙ sym (by-numbers ∙ ap (withNumbers kind) e)
 
 -- a line by its first field
 pub no-record : {line : List ℕ} {from : ℕ} → Reached Blanks line 0 from → from ≡ length line → Nothing ≡ recordIn line
-unfolding recordIn recordOf fieldsAt
-no-record {line} {from} blanks e = sym (ap recordOf (no-field blanks e))
+unfolding recordIn recordBy fieldsAt
+no-record {line} {from} blanks e = sym (ap recordBy (no-field blanks e))
 
-module _ {line : List ℕ} {from to kind : ℕ} (blanks : Reached Blanks line 0 from) (inside : from < length line) (field : Reached Field line from to)
-    (its-kind : kind ≡ getD line from 0) where
-  by-field : recordIn line ≡ recordOf (take (to - from) (drop from line) ∷ fieldsAt line to)
+module _ {line : List ℕ} {from to : ℕ} (blanks : Reached Blanks line 0 from) (inside : from ≡ length line → ⊥) (field : Reached Field line from to) where
+  room : from < length line
+  room = omega (arith, inside, blanks .within)
+
+  by-field : recordIn line ≡ recordBy (take (to - from) (drop from line) ∷ fieldsAt line to)
   unfolding recordIn fieldsAt
-  by-field = ap recordOf (first-field blanks inside field)
+  by-field = ap recordBy (first-field blanks room field)
 
-  first-byte : getD (take (to - from) (drop from line)) 0 0 ≡ kind
-  first-byte = field-byte blanks inside field ∙ sym its-kind
+  pub a-comment : getD line from 0 ≡ 0x23 → Nothing ≡ recordIn line
+  unfolding recordBy
+  a-comment e = sym (by-field ∙ rw (field-byte blanks room field) (simp (eq-eqb _ _ e)))
 
-  pub a-comment : kind ≡ 0x23 → Nothing ≡ recordIn line
-  unfolding recordOf
-  a-comment e = sym (by-field ∙ rw first-byte (simp (eq-eqb _ _ e)))
-
-  module _ (no-comment : kind ≡ 0x23 → ⊥) where
+  module _ (no-comment : getD line from 0 ≡ 0x23 → ⊥) where
     pub long-kind : (to - from ≡ 1 → ⊥) → Unreadable UnknownKind ≡ recordIn line
-    unfolding recordOf
-    long-kind h = sym (by-field ∙ rw (first-byte, field-length blanks inside field) (simp (ne-eqb _ _ no-comment, ne-eqb _ _ h)))
+    unfolding recordBy
+    long-kind h = sym (by-field ∙ rw (field-byte blanks room field, field-length blanks room field) (simp (ne-eqb _ _ no-comment, ne-eqb _ _ h)))
 
-    module _ (short : to - from ≡ 1) where
-      by-kind : recordIn line ≡ recordWith kind (fieldsAt line to)
-      unfolding recordOf
-      by-kind = by-field ∙ rw (first-byte, field-length blanks inside field) (simp (ne-eqb _ _ no-comment, eq-eqb _ _ short))
-
-      pub of-plan : {r : Record} → kind ≡ 0x50 → r ≡ planFrom (fieldsAt line to) → r ≡ recordIn line
-      unfolding recordWith
-      of-plan k e = e ∙ sym (by-kind ∙ simp (eq-eqb _ _ k))
-
-      module _ (not-plan : kind ≡ 0x50 → ⊥) where
-        pub of-word : {r : Record} → kind ≡ 0x57 → r ≡ wordFrom (fieldsAt line to) → r ≡ recordIn line
-        unfolding recordWith
-        of-word k e = e ∙ sym (by-kind ∙ simp (ne-eqb _ _ not-plan, eq-eqb _ _ k))
-
-        module _ (not-word : kind ≡ 0x57 → ⊥) where
-          pub of-value : {r : Record} → kind ≡ 0x4C → r ≡ valueFrom (fieldsAt line to) → r ≡ recordIn line
-          unfolding recordWith
-          of-value k e = e ∙ sym (by-kind ∙ simp (ne-eqb _ _ not-plan, ne-eqb _ _ not-word, eq-eqb _ _ k))
-
-          module _ (not-value : kind ≡ 0x4C → ⊥) where
-            pub of-error : {r : Record} → kind ≡ 0x45 → r ≡ errorFrom (fieldsAt line to) → r ≡ recordIn line
-            unfolding recordWith
-            of-error k e = e ∙ sym (by-kind ∙ simp (ne-eqb _ _ not-plan, ne-eqb _ _ not-word, ne-eqb _ _ not-value, eq-eqb _ _ k))
-
-            pub of-none : (kind ≡ 0x45 → ⊥) → Unreadable UnknownKind ≡ recordIn line
-            unfolding recordWith
-            of-none k = sym (by-kind ∙ simp (ne-eqb _ _ not-plan, ne-eqb _ _ not-word, ne-eqb _ _ not-value, ne-eqb _ _ k))
+    pub a-kind : to - from ≡ 1 → {r : Record} → r ≡ recordWith (getD line from 0) (fieldsAt line to) → r ≡ recordIn line
+    unfolding recordBy
+    a-kind short e = e ∙ sym (by-field ∙ rw (field-byte blanks room field, field-length blanks room field) (simp (ne-eqb _ _ no-comment, eq-eqb _ _ short)))

@@ -10,10 +10,11 @@ use lib.ListN.{length, length-append}
 use Rattle.pen.specs.Text.{digit, decimal}
 use Rattle.pen.proofs.Decimals.{decimal-small, decimal-more}
 use Rattle.terms.proofs.Tests.{le-or-lt}
+use Rattle.workfile.specs.declared.FileRecord.the-variants.{Word, Value, ErrorOf}
 use Rattle.entry.specs.Text.{blank, opens, onto, fieldsOf}
-use Rattle.entry.specs.Records.{numberFrom, numberOf, planFrom, wordFrom, valueFrom, errorFrom, recordWith, recordOf, recordIn}
+use Rattle.entry.specs.Records.{numberFrom, numberOf, numbersFrom, countOf, madeOf, withNumbers, recordWith, recordBy, recordIn}
 use Rattle.entry.specs.declared.NumberAnswer.the-variants.{Number}
-use Rattle.entry.specs.declared.Record.the-variants.{Plan, Word, Value, Error}
+use Rattle.entry.specs.declared.Record.the-variants.{Plan, Filed}
 use Rattle.entry.proofs.Cuts.{fields-blank, fields-on, fields-off, opens-at}
 
 -- one digit more
@@ -106,27 +107,27 @@ two-fields m n = field-first (decimal m) (decimal n) (a-field m) ∙ ap (λ (l :
 three-fields : (k m n : ℕ) → fieldsOf (decimal k ++ (32 ∷ (decimal m ++ (32 ∷ decimal n)))) ≡ decimal k ∷ decimal m ∷ decimal n ∷ []
 three-fields k m n = field-first (decimal k) (decimal m ++ (32 ∷ decimal n)) (a-field k) ∙ ap (λ (l : List (List ℕ)). decimal k ∷ l) (two-fields m n)
 
-pub word-read-back : (word : ℕ) → word < 2 ^ 64 → recordIn (0x57 ∷ 32 ∷ decimal word) ≡ Word word
-unfolding recordIn recordOf recordWith wordFrom blank
+pub word-read-back : (word : ℕ) → word < 2 ^ 64 → recordIn (0x57 ∷ 32 ∷ decimal word) ≡ Filed (Word word)
+unfolding recordIn recordBy recordWith countOf madeOf withNumbers numbersFrom blank
 word-read-back word h =
-    ap recordOf (field-first (0x57 ∷ []) (decimal word) (omega arith, (refl, tt)) ∙ ap (λ (l : List (List ℕ)). (0x57 ∷ []) ∷ l) (one-field word))
+    ap recordBy (field-first (0x57 ∷ []) (decimal word) (omega arith, (refl, tt)) ∙ ap (λ (l : List (List ℕ)). (0x57 ∷ []) ∷ l) (one-field word))
     ∙ simp (number-read-back word h)
 
-pub value-read-back : (value : ℕ) → value < 2 ^ 64 → recordIn (0x4C ∷ 32 ∷ decimal value) ≡ Value value
-unfolding recordIn recordOf recordWith valueFrom blank
+pub value-read-back : (value : ℕ) → value < 2 ^ 64 → recordIn (0x4C ∷ 32 ∷ decimal value) ≡ Filed (Value value)
+unfolding recordIn recordBy recordWith countOf madeOf withNumbers numbersFrom blank
 value-read-back value h =
-    ap recordOf (field-first (0x4C ∷ []) (decimal value) (omega arith, (refl, tt)) ∙ ap (λ (l : List (List ℕ)). (0x4C ∷ []) ∷ l) (one-field value))
+    ap recordBy (field-first (0x4C ∷ []) (decimal value) (omega arith, (refl, tt)) ∙ ap (λ (l : List (List ℕ)). (0x4C ∷ []) ∷ l) (one-field value))
     ∙ simp (number-read-back value h)
 
-pub error-read-back : (line error : ℕ) → line < 2 ^ 64 → error < 2 ^ 64 → recordIn (0x45 ∷ 32 ∷ (decimal line ++ (32 ∷ decimal error))) ≡ Error line error
-unfolding recordIn recordOf recordWith errorFrom blank
+pub error-read-back : (line error : ℕ) → line < 2 ^ 64 → error < 2 ^ 64 → recordIn (0x45 ∷ 32 ∷ (decimal line ++ (32 ∷ decimal error))) ≡ Filed (ErrorOf line error)
+unfolding recordIn recordBy recordWith countOf madeOf withNumbers numbersFrom blank
 error-read-back line error h g =
-    ap recordOf (field-first (0x45 ∷ []) (decimal line ++ (32 ∷ decimal error)) (omega arith, (refl, tt)) ∙ ap (λ (l : List (List ℕ)). (0x45 ∷ []) ∷ l) (two-fields line error))
+    ap recordBy (field-first (0x45 ∷ []) (decimal line ++ (32 ∷ decimal error)) (omega arith, (refl, tt)) ∙ ap (λ (l : List (List ℕ)). (0x45 ∷ []) ∷ l) (two-fields line error))
     ∙ simp (number-read-back line h, number-read-back error g)
 
 pub plan-read-back : (level te ae : ℕ) → level < 2 ^ 64 → te < 2 ^ 64 → ae < 2 ^ 64
     → recordIn (0x50 ∷ 32 ∷ (decimal level ++ (32 ∷ (decimal te ++ (32 ∷ decimal ae))))) ≡ Plan level te ae
-unfolding recordIn recordOf recordWith planFrom blank
+unfolding recordIn recordBy recordWith countOf madeOf withNumbers numbersFrom blank
 plan-read-back level te ae h g k =
-    ap recordOf (field-first (0x50 ∷ []) (decimal level ++ (32 ∷ (decimal te ++ (32 ∷ decimal ae)))) (omega arith, (refl, tt)) ∙ ap (λ (l : List (List ℕ)). (0x50 ∷ []) ∷ l) (three-fields level te ae))
+    ap recordBy (field-first (0x50 ∷ []) (decimal level ++ (32 ∷ (decimal te ++ (32 ∷ decimal ae)))) (omega arith, (refl, tt)) ∙ ap (λ (l : List (List ℕ)). (0x50 ∷ []) ∷ l) (three-fields level te ae))
     ∙ simp (number-read-back level h, number-read-back te g, number-read-back ae k)

@@ -1,15 +1,31 @@
 -- Runs of bytes as a loop over a list meets them. Assumes nothing.
-use mathlib.Core.Path.{_≡_, refl, sym}
+use mathlib.Core.Path.{_≡_, refl, sym, ap, _∙_}
 use mathlib.Core.Bool.{Bool, true, false, not}
 use mathlib.Core.List.{List}
 use Prim.Native.Nat.{ℕ, suc, _+_, _≤_, _<_}
 use native.Mathlib.Numerals.{add-one}
 use native.Mathlib.Omega.{arith}
+use lib.Dec.{eqb}
 use lib.ListN.{length, getD, drop, drop-of-length-le}
 use lib.Seq.{drop-cons}
-use Rattle.entry.specs.Text.{goesOn}
+use Rattle.entry.specs.Text.{blank, goesOn}
 use Rattle.entry.specs.Steps.{runOf, Reached}
 use Rattle.entry.specs.declared.Run.{Run}
+use Rattle.entry.specs.declared.Run.the-variants.{Blanks, Field, Line}
+
+-- whether a run goes on over a byte
+module _ {run : Run} (byte : ℕ) where
+  pub over-blanks : run ≡ Blanks → {r : Bool} → r ≡ blank byte → r ≡ goesOn run byte
+  unfolding goesOn
+  over-blanks e is = is ∙ sym (ap (λ (run : Run). goesOn run byte) e)
+
+  pub over-field : run ≡ Field → {r : Bool} → r ≡ blank byte → not r ≡ goesOn run byte
+  unfolding goesOn
+  over-field e is = ap not is ∙ sym (ap (λ (run : Run). goesOn run byte) e)
+
+  pub over-line : run ≡ Line → not (eqb byte 10) ≡ goesOn run byte
+  unfolding goesOn
+  over-line e = sym (ap (λ (run : Run). goesOn run byte) e)
 
 module _ (run : Run) (text : List ℕ) (at : ℕ) where
   pub run-on : at < length text → goesOn run (getD text at 0) ≡ true → runOf run (drop at text) ≡ suc (runOf run (drop (at + 1) text))
@@ -38,12 +54,16 @@ pub record Going (run : Run) (text : List ℕ) (from at : ℕ) : Type 0 where
   pub within : at ≤ length text
   pub same : at + runOf run (drop at text) ≡ from + runOf run (drop from text)
 
-module _ (run : Run) (text : List ℕ) (from at : ℕ) (g : Going run text from at) where
-  pub going-on : at < length text → goesOn run (getD text at 0) ≡ true → Going run text from (at + 1)
-  going-on h e = record { after = omega arith; within = omega arith; same = omega (arith, run-on run text at h e, g .same) }
+pub going-none : (run : Run) {text : List ℕ} {from : ℕ} → from ≤ length text → Going run text from from
+going-none run h = record { after = omega arith; within = h; same = refl }
 
-  pub going-stops : at < length text → goesOn run (getD text at 0) ≡ false → Reached run text from at
-  going-stops h e = record { after = g .after; within = g .within; same = omega (arith, run-stops run text at h e, g .same) }
+module _ {run : Run} {text : List ℕ} {from at : ℕ} (g : Going run text from at) where
+  module _ (h : at < length text) {goes : Bool} (e : goes ≡ goesOn run (getD text at 0)) where
+    pub going-on : not goes ≡ false → Going run text from (at + 1)
+    going-on f = record { after = omega arith; within = omega arith; same = omega (arith, run-on run text at h (sym e ∙ unturned goes f), g .same) }
+
+    pub going-stops : not goes ≡ true → Reached run text from at
+    going-stops t = record { after = g .after; within = g .within; same = omega (arith, run-stops run text at h (sym e ∙ turned goes t), g .same) }
 
   pub going-ends : length text ≤ at → Reached run text from at
   going-ends h = record { after = g .after; within = g .within; same = omega (arith, run-ends run text at h, g .same) }

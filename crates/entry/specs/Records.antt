@@ -1,72 +1,83 @@
--- The record that the fields of a line write: a kind, and as many numbers as the kind has. These are definitions: nothing is assumed.
-use Prim.Native.Nat.{ℕ, _+_, _*_, _-_, _^_}
+-- The record that the fields of a line write: a kind, and as many numbers as the kind has. Definitions: nothing is assumed.
+use Prim.Native.Nat.{ℕ, zero, suc, _+_, _*_, _-_, _^_}
 use mathlib.Core.List.{List, [], _∷_}
 use lib.Dec.{eqb, ltb}
 use lib.ListN.{length, getD}
 use Rattle.terms.specs.Numbers.{pick}
+use Rattle.workfile.specs.declared.FileRecord.{FileRecord}
 use Rattle.entry.specs.Text.{fieldsOf}
-use Rattle.entry.specs.declared.Wrong.the-variants.{UnknownKind, NumberMissing, NotNumber, NumberTooLarge, FieldTooMany}
-use Rattle.entry.specs.declared.NumberAnswer.{NumberAnswer}
-use Rattle.entry.specs.declared.NumberAnswer.the-variants.{Number, NoNumber}
-use Rattle.entry.specs.declared.Record.{Record}
-use Rattle.entry.specs.declared.Record.the-variants.{Nothing, Plan, Word, Value, Error, Unreadable}
+use Rattle.entry.specs.declared.{Wrong.Wrong, NumberAnswer.NumberAnswer, Numbers.Numbers, NumbersAnswer.NumbersAnswer, Record.Record}
 
 -- a number in decimal digits, after digits that write `value`: the first byte that is no digit, or that passes 64 bits, is wrong
 unfoldable pub numberFrom : ℕ → List ℕ → NumberAnswer
-numberFrom value [] = Number value
+numberFrom value [] = NumberAnswer.Number value
 numberFrom value (b ∷ field) =
     let grown = 10 * value + (b - 48) in
     let rest = numberFrom grown field in
-    pick (ltb b 48) (NoNumber NotNumber) (pick (ltb 57 b) (NoNumber NotNumber) (pick (ltb grown (2 ^ 64)) rest (NoNumber NumberTooLarge)))
+    pick (ltb b 48) (NumberAnswer.NoNumber Wrong.NotNumber) (pick (ltb 57 b) (NumberAnswer.NoNumber Wrong.NotNumber) (pick (ltb grown (2 ^ 64)) rest (NumberAnswer.NoNumber Wrong.NumberTooLarge)))
 
 unfoldable pub numberOf : List ℕ → NumberAnswer
 unfolding numberFrom
 numberOf field = numberFrom 0 field
 
-abbrev pub withNumber : NumberAnswer → (ℕ → Record) → Record
-withNumber (Number value) more = more value
-withNumber (NoNumber wrong) more = Unreadable wrong
+-- a number that was read, or was not
+abbrev pub withNumber : NumberAnswer → (ℕ → NumbersAnswer) → NumbersAnswer
+withNumber (NumberAnswer.Number value) more = more value
+withNumber (NumberAnswer.NoNumber wrong) more = NumbersAnswer.Unread wrong
 
--- the next field is a number, from which the record goes on
-abbrev pub next : List (List ℕ) → (ℕ → List (List ℕ) → Record) → Record
-next [] more = Unreadable NumberMissing
+-- the next field is a number, from which the numbers go on
+abbrev pub next : List (List ℕ) → (ℕ → List (List ℕ) → NumbersAnswer) → NumbersAnswer
+next [] more = NumbersAnswer.Unread Wrong.NumberMissing
 next (field ∷ fields) more = withNumber (numberOf field) (λ value. more value fields)
 
 -- no field is left
-abbrev pub ended : List (List ℕ) → Record → Record
-ended [] whole = whole
-ended (field ∷ fields) whole = Unreadable FieldTooMany
+abbrev pub ended : List (List ℕ) → Numbers → NumbersAnswer
+ended [] numbers = NumbersAnswer.Read numbers
+ended (field ∷ fields) numbers = NumbersAnswer.Unread Wrong.FieldTooMany
+
+-- the last three numbers, with one more
+abbrev pub noNumbers : Numbers
+noNumbers = record { first = 0; second = 0; third = 0 }
+
+abbrev pub oneMore : Numbers → ℕ → Numbers
+oneMore numbers value = record { first = numbers .second; second = numbers .third; third = value }
+
+-- exactly as many numbers as the count says, after those that were read
+unfoldable pub numbersFrom : ℕ → Numbers → List (List ℕ) → NumbersAnswer
+unfolding numberOf numberFrom
+numbersFrom zero numbers fields = ended fields numbers
+numbersFrom (suc left) numbers fields = next fields (λ value after. numbersFrom left (oneMore numbers value) after)
+
+-- how many numbers a kind has: P 3, W and L 1, E 2; a byte that is no kind has none
+unfoldable pub countOf : ℕ → ℕ
+countOf kind = pick (eqb kind 0x50) 3 (pick (eqb kind 0x57) 1 (pick (eqb kind 0x4C) 1 (pick (eqb kind 0x45) 2 0)))
 
 -- P level TE AE; W word; L value; E line error
-unfoldable pub planFrom : List (List ℕ) → Record
-unfolding numberOf numberFrom
-planFrom fields = next fields (λ level after. next after (λ te after. next after (λ ae after. ended after (Plan level te ae))))
+unfoldable pub madeOf : ℕ → Numbers → Record
+madeOf kind numbers =
+    pick (eqb kind 0x50) (Record.Plan (numbers .first) (numbers .second) (numbers .third))
+    (pick (eqb kind 0x57) (Record.Filed (FileRecord.Word (numbers .third)))
+    (pick (eqb kind 0x4C) (Record.Filed (FileRecord.Value (numbers .third)))
+    (pick (eqb kind 0x45) (Record.Filed (FileRecord.ErrorOf (numbers .second) (numbers .third)))
+    (Record.Unreadable Wrong.UnknownKind))))
 
-unfoldable pub wordFrom : List (List ℕ) → Record
-unfolding numberOf numberFrom
-wordFrom fields = next fields (λ word after. ended after (Word word))
+unfoldable pub withNumbers : ℕ → NumbersAnswer → Record
+unfolding madeOf
+withNumbers kind (NumbersAnswer.Read numbers) = madeOf kind numbers
+withNumbers kind (NumbersAnswer.Unread wrong) = Record.Unreadable wrong
 
-unfoldable pub valueFrom : List (List ℕ) → Record
-unfolding numberOf numberFrom
-valueFrom fields = next fields (λ value after. ended after (Value value))
-
-unfoldable pub errorFrom : List (List ℕ) → Record
-unfolding numberOf numberFrom
-errorFrom fields = next fields (λ line after. next after (λ error after. ended after (Error line error)))
-
--- by the byte of the kind: P, W, L, E
+-- the record of a kind, from the fields after it
 unfoldable pub recordWith : ℕ → List (List ℕ) → Record
-unfolding planFrom wordFrom valueFrom errorFrom
-recordWith kind fields =
-    pick (eqb kind 0x50) (planFrom fields) (pick (eqb kind 0x57) (wordFrom fields) (pick (eqb kind 0x4C) (valueFrom fields) (pick (eqb kind 0x45) (errorFrom fields) (Unreadable UnknownKind))))
+unfolding countOf withNumbers numbersFrom
+recordWith kind fields = pick (eqb (countOf kind) 0) (Record.Unreadable Wrong.UnknownKind) (withNumbers kind (numbersFrom (countOf kind) noNumbers fields))
 
 -- A line without fields holds nothing, nor does a comment, whose first field begins with #. The kind is a field of one byte.
-unfoldable pub recordOf : List (List ℕ) → Record
+unfoldable pub recordBy : List (List ℕ) → Record
 unfolding recordWith
-recordOf [] = Nothing
-recordOf (kind ∷ fields) =
-    pick (eqb (getD kind 0 0) 0x23) Nothing (pick (eqb (length kind) 1) (recordWith (getD kind 0 0) fields) (Unreadable UnknownKind))
+recordBy [] = Record.Nothing
+recordBy (kind ∷ fields) =
+    pick (eqb (getD kind 0 0) 0x23) Record.Nothing (pick (eqb (length kind) 1) (recordWith (getD kind 0 0) fields) (Record.Unreadable Wrong.UnknownKind))
 
 unfoldable pub recordIn : List ℕ → Record
-unfolding recordOf fieldsOf
-recordIn line = recordOf (fieldsOf line)
+unfolding recordBy fieldsOf
+recordIn line = recordBy (fieldsOf line)

@@ -1,11 +1,10 @@
--- A text is lines of bytes, and a line is fields between blanks. These are definitions: nothing is assumed.
+-- A text is lines of bytes, and a line is fields between blanks. Definitions: nothing is assumed.
 use Prim.Native.Nat.{ℕ}
 use mathlib.Core.Bool.{Bool, true, false, not}
 use mathlib.Core.List.{List, [], _∷_}
 use lib.Dec.{eqb}
 use Rattle.terms.specs.Numbers.{pick}
 use Rattle.entry.specs.declared.Run.{Run}
-use Rattle.entry.specs.declared.Run.the-variants.{Blanks, Field, Line}
 
 -- a byte before the first of some lists of bytes
 abbrev pub onto : ℕ → List (List ℕ) → List (List ℕ)
@@ -13,9 +12,9 @@ onto b [] = (b ∷ []) ∷ []
 onto b (l ∷ ls) = (b ∷ l) ∷ ls
 
 -- The lines of a text: each ends with a newline, which is no part of it; the last may lack it.
-unfoldable pub linesOf : List ℕ → List (List ℕ)
-linesOf [] = []
-linesOf (b ∷ text) = pick (eqb b 10) ([] ∷ linesOf text) (onto b (linesOf text))
+unfoldable pub textLines : List ℕ → List (List ℕ)
+textLines [] = []
+textLines (b ∷ text) = pick (eqb b 10) ([] ∷ textLines text) (onto b (textLines text))
 
 -- a space, a tab or a carriage return
 unfoldable pub blank : ℕ → Bool
@@ -33,6 +32,6 @@ fieldsOf (b ∷ line) = pick (blank b) (fieldsOf line) (pick (opens line) (onto 
 
 -- what a run of bytes goes on over: blanks, a field's bytes, a line's bytes
 unfoldable pub goesOn : Run → ℕ → Bool
-goesOn Blanks b = blank b
-goesOn Field b = not (blank b)
-goesOn Line b = not (eqb b 10)
+goesOn Run.Blanks b = blank b
+goesOn Run.Field b = not (blank b)
+goesOn Run.Line b = not (eqb b 10)

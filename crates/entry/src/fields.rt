@@ -1,6 +1,6 @@
 // The bytes of a line: blanks, fields, and numbers in decimal digits.
 ghost use mathlib.Core.Path.{_≡_};
-ghost use Prim.Native.Nat.{_≤_, _<_};
+ghost use Prim.Native.Nat.{_≤_};
 ghost use lib.ListN.{length};
 ghost use Rattle.entry.specs.Text.{blank, goesOn};
 ghost use Rattle.entry.specs.Records.{numberOf};
@@ -48,12 +48,6 @@ pub fn reach(text: &[u8], from: usize, run: Run) -> usize
     at
 }
 
-fn wide(x: u8) -> u64
-    ensures { λ r. ⌜ (r ≡ x) × (r < 256) ⌝ }
-{
-    x as u64
-}
-
 // A field as a number: decimal digits only, within 64 bits.
 fn number_of(field: &[u8]) -> NumberAnswer
     ensures { λ r. ⌜ r ≡ numberOf (now (field .entry)) ⌝ }
@@ -61,7 +55,7 @@ fn number_of(field: &[u8]) -> NumberAnswer
     let mut value: u64 = 0;
     let mut at = 0;
     while at < field.len() {
-        let byte = wide(field[at]);
+        let byte = terms::widen(field[at]);
         if byte < 48 {
             return NumberAnswer::NoNumber(Wrong::NotNumber);
         }

@@ -1,6 +1,9 @@
 // One line of the text from which a working file is made: its fields, its numbers and its record.
 pub mod fields; // fields.rt: the bytes of a line, its fields and numbers
+mod body; // body.rt: the numbers of a line
 pub mod records; // records.rt: the record of a line
+
+use workfile::FileRecord;
 
 // What is wrong with a line; the last is wrong with the call.
 pub enum Wrong {
@@ -40,12 +43,22 @@ pub enum NextAnswer {
     NoNext(Wrong),
 }
 
-// What a line holds; a blank line and a comment hold nothing.
+// The last three numbers of a line; where it has fewer, the others are 0.
+struct Numbers {
+    first: u64,
+    second: u64,
+    third: u64,
+}
+
+enum NumbersAnswer {
+    Read(Numbers),
+    Unread(Wrong),
+}
+
+// What a line holds: P, or another record of the working file; a blank line and a comment hold nothing.
 pub enum Record {
     Nothing,
     Plan(u64, u64, u64),
-    Word(u64),
-    Value(u64),
-    Error(u64, u64),
+    Filed(FileRecord),
     Unreadable(Wrong),
 }

@@ -2,74 +2,55 @@
 ghost use mathlib.Core.Path.{_≡_};
 ghost use Prim.Native.Nat.{_≤_};
 ghost use lib.ListN.{length};
-ghost use Rattle.entry.specs.Records.{ended as endedBy, planFrom, wordFrom, valueFrom, errorFrom, recordIn};
+ghost use Rattle.entry.specs.Records.{countOf, madeOf, recordWith, recordIn};
 ghost use Rattle.entry.specs.Steps.{fieldsAt};
-use crate::NextAnswer;
+use crate::Numbers;
+use crate::NumbersAnswer;
 use crate::Record;
 use crate::Run;
 use crate::Wrong;
-use crate::fields::next_number;
+use crate::body::read_numbers;
 use crate::fields::reach;
+use workfile::FileRecord;
 
-// The record where nothing but blanks follows.
-fn ended(line: &[u8], at: usize, whole: Record) -> Record
-    requires { ⌜ at ≤ length (now line) ⌝ }
-    ensures { λ r. ⌜ r ≡ endedBy (fieldsAt (now (line .entry)) at) whole ⌝ }
+// How many numbers a kind has; none for what is no kind.
+fn count_of(kind: u8) -> usize
+    ensures { λ r. ⌜ r ≡ countOf kind ⌝ }
 {
-    let end = reach(line, at, Run::Blanks);
-    if end == line.len() {
-        whole
-    } else {
-        Record::Unreadable(Wrong::FieldTooMany)
+    match kind {
+        0x50 => 3,
+        0x57 => 1,
+        0x4C => 1,
+        0x45 => 2,
+        _ => 0,
     }
 }
 
-fn plan_record(line: &[u8], at: usize) -> Record
-    requires { ⌜ at ≤ length (now line) ⌝ }
-    ensures { λ r. ⌜ r ≡ planFrom (fieldsAt (now (line .entry)) at) ⌝ }
+// The record of a kind with its numbers.
+fn made(kind: u8, numbers: Numbers) -> Record
+    ensures { λ r. ⌜ r ≡ madeOf kind numbers ⌝ }
 {
-    match next_number(line, at) {
-        NextAnswer::NoNext(wrong) => Record::Unreadable(wrong),
-        NextAnswer::Next(level, to_te) => match next_number(line, to_te) {
-            NextAnswer::NoNext(wrong) => Record::Unreadable(wrong),
-            NextAnswer::Next(te, to_ae) => match next_number(line, to_ae) {
-                NextAnswer::NoNext(wrong) => Record::Unreadable(wrong),
-                NextAnswer::Next(ae, end) => ended(line, end, Record::Plan(level, te, ae)),
-            },
-        },
+    match kind {
+        0x50 => Record::Plan(numbers.first, numbers.second, numbers.third),
+        0x57 => Record::Filed(FileRecord::Word(numbers.third)),
+        0x4C => Record::Filed(FileRecord::Value(numbers.third)),
+        0x45 => Record::Filed(FileRecord::ErrorOf(numbers.second as usize, numbers.third)),
+        _ => Record::Unreadable(Wrong::UnknownKind),
     }
 }
 
-fn word_record(line: &[u8], at: usize) -> Record
+// The record of a kind, whose numbers stand from `at` on.
+fn record_with(kind: u8, line: &[u8], at: usize) -> Record
     requires { ⌜ at ≤ length (now line) ⌝ }
-    ensures { λ r. ⌜ r ≡ wordFrom (fieldsAt (now (line .entry)) at) ⌝ }
+    ensures { λ r. ⌜ r ≡ recordWith kind (fieldsAt (now (line .entry)) at) ⌝ }
 {
-    match next_number(line, at) {
-        NextAnswer::NoNext(wrong) => Record::Unreadable(wrong),
-        NextAnswer::Next(word, end) => ended(line, end, Record::Word(word)),
+    let count = count_of(kind);
+    if count == 0 {
+        return Record::Unreadable(Wrong::UnknownKind);
     }
-}
-
-fn value_record(line: &[u8], at: usize) -> Record
-    requires { ⌜ at ≤ length (now line) ⌝ }
-    ensures { λ r. ⌜ r ≡ valueFrom (fieldsAt (now (line .entry)) at) ⌝ }
-{
-    match next_number(line, at) {
-        NextAnswer::NoNext(wrong) => Record::Unreadable(wrong),
-        NextAnswer::Next(value, end) => ended(line, end, Record::Value(value)),
-    }
-}
-
-fn error_record(line: &[u8], at: usize) -> Record
-    requires { ⌜ at ≤ length (now line) ⌝ }
-    ensures { λ r. ⌜ r ≡ errorFrom (fieldsAt (now (line .entry)) at) ⌝ }
-{
-    match next_number(line, at) {
-        NextAnswer::NoNext(wrong) => Record::Unreadable(wrong),
-        NextAnswer::Next(number, to_error) => match next_number(line, to_error) {
-            NextAnswer::NoNext(wrong) => Record::Unreadable(wrong),
-            NextAnswer::Next(error, end) => ended(line, end, Record::Error(number, error)),
-        },
+    match read_numbers(line, at, count) {
+        NumbersAnswer::Unread(wrong) => Record::Unreadable(wrong),
+        NumbersAnswer::Read(numbers) => made(kind, numbers),
     }
 }
 
@@ -90,17 +71,5 @@ pub fn record_of(line: &[u8]) -> Record
     if size != 1 {
         return Record::Unreadable(Wrong::UnknownKind);
     }
-    if kind == 0x50 {
-        return plan_record(line, to);
-    }
-    if kind == 0x57 {
-        return word_record(line, to);
-    }
-    if kind == 0x4C {
-        return value_record(line, to);
-    }
-    if kind == 0x45 {
-        return error_record(line, to);
-    }
-    Record::Unreadable(Wrong::UnknownKind)
+    record_with(kind, line, to)
 }

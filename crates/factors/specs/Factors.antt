@@ -1,4 +1,4 @@
--- RF, the reliability factors, and the steps between them, in hundredths. These are definitions: nothing is assumed.
+-- RF, the reliability factors, and the steps between them, in hundredths. Definitions: nothing is assumed.
 use mathlib.Core.Path.{_≡_}
 use Prim.Native.Nat.{ℕ, zero, suc, _+_, _*_, _<_}
 use lib.Dec.{ltb}

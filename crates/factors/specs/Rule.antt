@@ -1,5 +1,4 @@
--- The rule of document 01, section "Factors", multiplied out to whole numbers. These are definitions: nothing is assumed.
--- The series of exp(F/100) has the terms F^i / (i! * 100^i).
+-- The rule of document 01's "Factors", in whole numbers; exp(F/100) has the terms F^i / (i! * 100^i). Definitions: nothing is assumed.
 use Prim.Native.Nat.{ℕ, zero, suc, _+_, _-_, _*_, _/_, _^_, _≤_, _<_}
 
 -- n!

@@ -1,5 +1,5 @@
 -- The table: nine rows, levels 99 to 50, of sixty-four factors in hundredths, one row after the other.
--- These are definitions: nothing is assumed. Made by tools/factors, as is src/table.rt: neither is edited by hand.
+-- Definitions: nothing is assumed. Made by tools/factors, as is src/table.rt: neither is edited by hand.
 use Prim.Native.Nat.{ℕ}
 use mathlib.Core.List.{List, [], _∷_}
 

@@ -1,7 +1,7 @@
 // The factors of document 01: nine levels, an expansion factor for each, and sixty-four reliability factors for each.
 use terms::Refusal;
 ghost use mathlib.Core.Path.{_≡_};
-ghost use Rattle.factors.specs.Levels.{levelSays, levelOf, rowOf, ef};
+ghost use Rattle.factors.specs.Levels.{LevelPromise, rowOf, ef};
 ghost use Rattle.factors.specs.Factors.{Reliability, stepOf};
 
 mod table;
@@ -27,7 +27,7 @@ pub enum LevelAnswer {
 
 // The level that a byte names by its percent.
 pub fn level_of(percent: u8) -> LevelAnswer
-    ensures { λ r. ⌜ levelSays r ≡ levelOf percent ⌝ }
+    ensures { λ r. ⌜ LevelPromise percent r ⌝ }
 {
     match percent {
         99 => LevelAnswer::Known(Level::P99),

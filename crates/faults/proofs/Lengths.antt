@@ -9,7 +9,7 @@ use Rattle.pen.proofs.Lengths.{decimal-short}
 use Rattle.entry.specs.declared.Wrong.{Wrong}
 use Rattle.entry.specs.declared.Wrong.the-variants.{UnknownKind, NumberMissing, NotNumber, NumberTooLarge, FieldTooMany, NoPlan, SecondPlan, LevelTooLarge, OutOfOrder, TooManyWords, TooManyLines, TotalTooLarge, UnknownLine, LineNotRising, ErrorZero, NoRoom}
 use Rattle.notation.specs.declared.Fault.{Fault}
-use Rattle.faults.specs.Faults.{wrongWords, faultText}
+use Rattle.faults.specs.Faults.{wrongWords, placeText, faultText}
 
 words-short : (w : Wrong) → length (wrongWords w) ≤ 50
 words-short UnknownKind = omega arith
@@ -33,7 +33,8 @@ pub fault-short : (fault : Fault) → fault .line < 2 ^ 64 → length (faultText
 fault-short fault h =
     omega (
       arith,
-      length-append (decimal (fault .line)) (letters ": " ++ (wrongWords (fault .wrong) ++ (10 ∷ []))),
+      length-append (placeText (fault .line)) (wrongWords (fault .wrong) ++ (10 ∷ [])),
+      length-append (decimal (fault .line)) (letters ": "),
       length-append (wrongWords (fault .wrong)) (10 ∷ []),
       words-short (fault .wrong),
       decimal-short (fault .line) h,

@@ -2,40 +2,77 @@
 use entry::Wrong;
 use notation::Fault;
 use pen::Pen;
+ghost use mathlib.Core.Path.{_≡_};
 ghost use Rattle.pen.specs.Page.{Wrote, Printed};
-ghost use Rattle.faults.specs.Faults.{wrongWords, faultText};
+ghost use Rattle.faults.specs.Faults.{wrongWords, placeText, faultText};
+
+// A pen and the fault that it is to say.
+struct Saying {
+    pen: Pen,
+    wrong: Wrong,
+}
+
+impl Saying {
+    // The words of the fault, which is the case that they are written for.
+    fn say(self, out: &mut [u8], case: Wrong, words: &[u8]) -> Pen
+        requires { ⌜ (self .wrong ≡ case) × (now words ≡ wrongWords case) ⌝ }
+        ensures { λ r. ⌜ Wrote (now (out .entry)) (self .pen .at) (wrongWords (self .wrong)) (now (out .exit)) (r .at) ⌝ }
+    {
+        let pen = self.pen;
+        pen.text(out, words)
+    }
+}
 
 // What is wrong.
 fn write_wrong(pen: Pen, out: &mut [u8], wrong: Wrong) -> Pen
     ensures { λ r. ⌜ Wrote (now (out .entry)) (pen .at) (wrongWords wrong) (now (out .exit)) (r .at) ⌝ }
 {
+    let it = Saying {
+        pen: pen,
+        wrong: wrong,
+    };
     match wrong {
-        Wrong::UnknownKind => pen.text(out, b"the line begins with none of P, W, L, E and #"),
-        Wrong::NumberMissing => pen.text(out, b"a number is missing"),
-        Wrong::NotNumber => pen.text(out, b"a number has decimal digits only"),
-        Wrong::NumberTooLarge => pen.text(out, b"a number passes 64 bits"),
-        Wrong::FieldTooMany => pen.text(out, b"a field too many"),
-        Wrong::NoPlan => pen.text(out, b"P has to come first"),
-        Wrong::SecondPlan => pen.text(out, b"a second P"),
-        Wrong::LevelTooLarge => pen.text(out, b"the level is above 255"),
-        Wrong::OutOfOrder => pen.text(out, b"records come in the order P, W, L, E"),
-        Wrong::TooManyWords => pen.text(out, b"more than 64 words"),
-        Wrong::TooManyLines => pen.text(out, b"more than 2048 lines"),
-        Wrong::TotalTooLarge => pen.text(out, b"the sum of L passes 64 bits"),
-        Wrong::UnknownLine => pen.text(out, b"E names a line that no L has"),
-        Wrong::LineNotRising => pen.text(out, b"the lines of E have to rise"),
-        Wrong::ErrorZero => pen.text(out, b"an error has to be above 0"),
-        Wrong::NoRoom => pen.text(out, b"the buffers are too short"),
+        Wrong::UnknownKind => it.say(
+            out,
+            Wrong::UnknownKind,
+            b"the line begins with none of P, W, L, E and #",
+        ),
+        Wrong::NumberMissing => it.say(out, Wrong::NumberMissing, b"a number is missing"),
+        Wrong::NotNumber => it.say(out, Wrong::NotNumber, b"a number has decimal digits only"),
+        Wrong::NumberTooLarge => it.say(out, Wrong::NumberTooLarge, b"a number passes 64 bits"),
+        Wrong::FieldTooMany => it.say(out, Wrong::FieldTooMany, b"a field too many"),
+        Wrong::NoPlan => it.say(out, Wrong::NoPlan, b"P has to come first"),
+        Wrong::SecondPlan => it.say(out, Wrong::SecondPlan, b"a second P"),
+        Wrong::LevelTooLarge => it.say(out, Wrong::LevelTooLarge, b"the level is above 255"),
+        Wrong::OutOfOrder => it.say(
+            out,
+            Wrong::OutOfOrder,
+            b"records come in the order P, W, L, E",
+        ),
+        Wrong::TooManyWords => it.say(out, Wrong::TooManyWords, b"more than 64 words"),
+        Wrong::TooManyLines => it.say(out, Wrong::TooManyLines, b"more than 2048 lines"),
+        Wrong::TotalTooLarge => it.say(out, Wrong::TotalTooLarge, b"the sum of L passes 64 bits"),
+        Wrong::UnknownLine => it.say(out, Wrong::UnknownLine, b"E names a line that no L has"),
+        Wrong::LineNotRising => it.say(out, Wrong::LineNotRising, b"the lines of E have to rise"),
+        Wrong::ErrorZero => it.say(out, Wrong::ErrorZero, b"an error has to be above 0"),
+        Wrong::NoRoom => it.say(out, Wrong::NoRoom, b"the buffers are too short"),
     }
+}
+
+// Where it is.
+fn write_place(pen: Pen, out: &mut [u8], line: u64) -> Pen
+    ensures { λ r. ⌜ Wrote (now (out .entry)) (pen .at) (placeText line) (now (out .exit)) (r .at) ⌝ }
+{
+    let opened = pen.text(out, b"line ");
+    let numbered = opened.number(out, line);
+    numbered.text(out, b": ")
 }
 
 fn write_line(pen: Pen, out: &mut [u8], fault: Fault) -> Pen
     ensures { λ r. ⌜ Wrote (now (out .entry)) (pen .at) (faultText fault) (now (out .exit)) (r .at) ⌝ }
 {
     let wrong = fault.wrong;
-    let opened = pen.text(out, b"line ");
-    let numbered = opened.number(out, fault.line as u64);
-    let parted = numbered.text(out, b": ");
+    let parted = write_place(pen, out, fault.line as u64);
     let said = write_wrong(parted, out, wrong);
     said.byte(out, 10)
 }

@@ -1,11 +1,12 @@
-// The bytes of the input. Every place may be asked for: past the end of the input there are zeros.
+// The bytes of a case. Every place may be asked for: past the end of the case there are zeros.
+use terms::widen;
 ghost use Prim.Native.Nat.{_<_};
 
 pub fn byte_at(input: &[u8], at: usize) -> u8 {
     if at < input.len() { input[at] } else { 0 }
 }
 
-// The place so many bytes on, or the end of the input.
+// The place so many bytes on, or the end of the case.
 pub fn on(input: &[u8], at: usize, bytes: usize) -> usize {
     if at < input.len() {
         let rest = input.len() - at;
@@ -16,18 +17,12 @@ pub fn on(input: &[u8], at: usize, bytes: usize) -> usize {
     input.len()
 }
 
-fn wide(byte: u8) -> u64
-    ensures { λ r. ⌜ r < 256 ⌝ }
-{
-    byte as u64
-}
-
 // The number of 2 bytes.
 pub fn two(input: &[u8], at: usize) -> u64
     ensures { λ r. ⌜ r < 65536 ⌝ }
 {
-    let low = wide(byte_at(input, at));
-    let high = wide(byte_at(input, on(input, at, 1)));
+    let low = widen(byte_at(input, at));
+    let high = widen(byte_at(input, on(input, at, 1)));
     low + 0x100 * high
 }
 

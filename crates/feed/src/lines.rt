@@ -1,42 +1,81 @@
-// A line of the output: the number of the case and the operation's name, the answer, the digests of what was lent.
+// The line of a case: its number and the operation's name, the answer, the digests of what was lent.
+use crate::rooms::digest_bytes;
+use crate::rooms::digest_numbers;
+use answers::Answer;
 use pen::Pen;
 
-// A refusal's number and place, or 0 and 0; and a verdict's number, 0 where there is none.
-pub struct Told {
-    pub refusal: u64,
-    pub place: u64,
-    pub verdict: u64,
-}
-
-fn answered(page: &mut [u8], number: u64, name: &[u8], told: Told, figures: &[u64]) -> Pen {
-    let start = Pen { at: 0 };
-    let numbered = start.number(page, number);
-    let named = numbered.text(page, name);
-    let put = answers::put_answer(named, page, told.refusal, told.place, figures);
-    answers::put_verdict(put, page, told.verdict)
-}
-
-// Ends the line and writes it.
-fn close(page: &mut [u8], pen: Pen) {
-    let ended = pen.byte(page, 10);
-    let length = ended.at;
-    if length <= page.len() {
-        io::write_all(1, &page[..length]);
+// The name of a step.
+fn put_step(pen: Pen, page: &mut [u8], operation: u8) -> Pen {
+    match operation {
+        1 => pen.text(page, b" size"),
+        2 => pen.text(page, b" split"),
+        3 => pen.text(page, b" start"),
+        4 => pen.text(page, b" draw"),
+        5 => pen.text(page, b" project"),
+        _ => pen.text(page, b" judge"),
     }
 }
 
-// The line of an answer.
-pub fn tell(number: u64, name: &[u8], told: Told, figures: &[u64]) {
-    let mut page = [0u8; 256];
-    let put = answered(&mut page, number, name, told, figures);
-    close(&mut page, put);
+// The name of an operation.
+fn put_name(pen: Pen, page: &mut [u8], operation: u8) -> Pen {
+    match operation {
+        1..=6 => put_step(pen, page, operation),
+        7 => pen.text(page, b" read"),
+        8 => pen.text(page, b" write"),
+        _ => pen.text(page, b" is of no operation"),
+    }
 }
 
-// The same with " lent" and the digests of what was lent.
-pub fn tell_lent(number: u64, name: &[u8], told: Told, figures: &[u64], digests: &[u64]) {
+// The digests of what was lent: the room or the file, and each list.
+struct Digests {
+    bytes: u64,
+    ledger: u64,
+    errors: u64,
+    words: u64,
+}
+
+// " lent" and digests.
+fn put_lent(pen: Pen, page: &mut [u8], digests: &[u64]) -> Pen {
+    let lent = pen.text(page, b" lent");
+    lent.fields(page, digests)
+}
+
+// The digests of what an operation was lent.
+fn put_digests(pen: Pen, page: &mut [u8], operation: u8, d: Digests) -> Pen {
+    match operation {
+        1 => pen,
+        2 | 4 => put_lent(pen, page, &[d.ledger, d.bytes]),
+        3 => put_lent(pen, page, &[d.words]),
+        5 | 6 => put_lent(pen, page, &[d.ledger, d.errors]),
+        7 => put_lent(pen, page, &[d.bytes, d.words, d.ledger, d.errors]),
+        _ => put_lent(pen, page, &[d.words, d.ledger, d.errors, d.bytes]),
+    }
+}
+
+fn put_case(page: &mut [u8], number: u64, operation: u8, answer: Answer, digests: Digests) -> Pen {
+    let start = Pen { at: 0 };
+    let numbered = start.number(page, number);
+    let named = put_name(numbered, page, operation);
+    let told = answers::put(named, page, answer);
+    put_digests(told, page, operation, digests)
+}
+
+pub fn tell(
+    number: u64,
+    operation: u8,
+    answer: Answer,
+    bytes: &[u8],
+    ledger: &[u64],
+    errors: &[u64],
+    words: &[u64],
+) {
     let mut page = [0u8; 256];
-    let put = answered(&mut page, number, name, told, figures);
-    let lent = put.text(&mut page, b" lent");
-    let all = lent.fields(&mut page, digests);
-    close(&mut page, all);
+    let digests = Digests {
+        bytes: digest_bytes(bytes),
+        ledger: digest_numbers(ledger),
+        errors: digest_numbers(errors),
+        words: digest_numbers(words),
+    };
+    let told = put_case(&mut page, number, operation, answer, digests);
+    answers::write_line(&mut page, told);
 }

@@ -6,13 +6,13 @@ use mathlib.Core.Logic.{_↔_}
 use Prim.Native.Nat.{ℕ, _+_, _≤_, _<_}
 use native.Mathlib.Omega.{arith}
 use borrow.Author.Tests.{ltb-true, ltb-false, leb-true, leb-false, eqb-false}
-use lib.Dec.{ltb, leb, eqb}
+use lib.Dec.{T, ltb, leb, eqb}
 use lib.IntN.{pos, natAbs}
 use lib.ListN.{length}
-use Rattle.terms.specs.Outcome.{accepted, after}
+use Rattle.terms.specs.Outcome.{Outcome, accepted, refused, after}
 use Rattle.terms.specs.Numbers.{sum, AllUpTo}
 use Rattle.terms.specs.Limits.{mostErrors}
-use Rattle.terms.proofs.Outcomes.{never, after-accepted, Gives, gives-after, gives-among}
+use Rattle.terms.proofs.Outcomes.{never, after-accepted, Gives, gives-after, allAmong, gives-among}
 use Rattle.terms.proofs.Tests.{by-test}
 use Rattle.factors.specs.declared.Level.{Level}
 use Rattle.factors.specs.Levels.{levelOf}
@@ -20,20 +20,21 @@ use Rattle.factors.proofs.Percents.{level-gives}
 use Rattle.ledger.specs.Ledger.{ledgerOf}
 use Rattle.ledger.proofs.Laws.{good, ledgerNumbers, ledger-gives}
 use Rattle.split.specs.declared.Figures.{Figures}
-use Rattle.draw.specs.Draw.{figuresFor}
-use Rattle.draw.proofs.Laws.{start-facts, drawNumbers, figures-give}
+use Rattle.split.specs.Start.{figuresFor}
+use Rattle.split.proofs.Start.{start-facts, figuresNumbers, figures-give}
 use Rattle.project.specs.declared.Line.{Line}
 use Rattle.project.specs.declared.Projection.{Projection}
 use Rattle.project.specs.Lines.{linesOf, projectionOf, amountsOf}
-use Rattle.project.specs.Project.{checkedLines, projectionAt, projectOf}
-use Rattle.project.proofs.Passing.{all-passed}
-use Rattle.project.proofs.Laws.{checked-lines, project-from, projectNumbers, lineNumbers, checked-gives}
+use Rattle.project.specs.Project.{checkedLines, projectOf}
+use Rattle.project.proofs.Checking.{lineNumbers}
+use Rattle.project.proofs.Facts.{ErrorsWithin, LinesFacts, lines-facts}
+use Rattle.project.proofs.Laws.{checked-lines, checked-give, projection-by, project-from, projectNumbers}
 use Rattle.precision.specs.Precision.{precisionOf, precisionCents}
 use Rattle.precision.proofs.Rounded.{never-negative, no-interval}
 use Rattle.judge.specs.declared.Verdict.{Verdict}
 use Rattle.judge.specs.declared.Verdict.the-variants.{Below, Inconclusive, Above}
 use Rattle.judge.specs.declared.Judgement.{Judgement}
-use Rattle.judge.specs.Judge.{verdictOf, concluded, judgedLines, judgedAt, judgedFigures, outOfRange, judgedTotal, judgedLedger, judgeOf}
+use Rattle.judge.specs.Judge.{verdictOf, concluded, judgedWith, judgedLines, judgedAt, judgedFigures, outOfRange, judgedTotal, judgedLedger, judgeOf}
 use Rattle.judge.proofs.Answer.{is-above, is-below, is-inconclusive}
 
 -- what an accepted judgement gives
@@ -45,6 +46,7 @@ pub record JudgeFacts (percent : ℕ) (ledger : List ℕ) (n start : ℕ) (error
   -- the projection is the projection's own answer on the same inputs
   pub projected : projectOf ledger n start errors ≡ accepted (j .projection)
   pub few : j .projection .m ≤ mostErrors
+  pub errors-within : ErrorsWithin ledger errors
   pub figures : Figures
   pub started : figuresFor ledger n start (length errors) ≡ accepted figures
   -- the signed precision of the lines' amounts is the one in the answer, so it is never negative
@@ -70,29 +72,25 @@ module _ (level : Level) (ledger : List ℕ) (n start : ℕ) (errors : List ℕ)
   lines = linesOf (f .interval) start ledger errors
 
   record OfLines (j : Judgement) : Type 0 where
-    checked : checkedLines (f .interval) start ledger errors ≡ accepted lines
+    checked : checkedLines 0 (f .interval) start ledger errors ≡ accepted lines
     few : projectionOf lines .m ≤ mostErrors
     answer : concluded te (projectionOf lines) (precisionCents level (f .interval) (amountsOf lines)) ≡ j
 
   of-lines : (j : Judgement) → judgedAt level ledger start errors te (f .interval) ≡ accepted j → OfLines j
-  unfolding judgedAt judgedLines checkedLines
+  unfolding judgedAt judgedLines judgedWith
   of-lines j e =
-      let a = after-accepted (judgedLines level te (f .interval)) (checkedLines (f .interval) start ledger errors) j e in
-      let same : a .0 ≡ lines = checked-lines 0 lines (a .0) (a .1) in
-      by-test (λ o. o ≡ accepted j → OfLines j) (ltb mostErrors (projectionOf lines .m)) (λ t g. never g)
-      (λ t g. record { checked = a .1 ∙ ap accepted same; few = ltb-false _ _ t; answer = cc })
+      let a = after-accepted (judgedLines level te (f .interval)) (checkedLines 0 (f .interval) start ledger errors) j e in
+      let checked = checked-lines 0 (f .interval) start ledger errors (a .0) (a .1) in
+      let same : a .0 ≡ lines = let w = sym (a .1) ∙ checked in cc in
+      by-test (λ o. o ≡ accepted j → OfLines j) (ltb mostErrors (projectionOf lines .m)) (λ t g. never g) (λ t g. record { checked = checked; few = ltb-false _ _ t; answer = cc })
       (sym (ap (judgedLines level te (f .interval)) same) ∙ a .2)
 
   -- the projection's answer at these figures
   same-projection : {j : Judgement} → OfLines j → projectOf ledger n start errors ≡ accepted (projectionOf lines)
-  unfolding projectionAt
-  same-projection o = sym (project-from ledger n start errors f (sym started)) ∙ ap (after (λ good. accepted (projectionOf good))) (o .checked)
+  same-projection o = sym (project-from ledger n start errors (sym started)) ∙ projection-by 0 (f .interval) start ledger errors (o .checked)
 
-  -- the amounts are fewer than 64 and none is above the interval
-  amounts-known : {j : Judgement} → OfLines j → (length (amountsOf lines) < 64) × AllUpTo (f .interval) (amountsOf lines)
-  amounts-known o =
-      let last = all-passed (f .interval) start ledger errors (start-facts ledger n start (length errors) f started .early) lines (o .checked) in
-      (omega (arith, last .1 .amounts .count, o .few), last .1 .amounts .each)
+  lines-known : {j : Judgement} → OfLines j → LinesFacts (f .interval) start ledger errors lines
+  lines-known o = lines-facts 0 (f .interval) start ledger errors lines (start-facts ledger n start (length errors) f started .early) (o .checked)
 
   pub judge-facts-at : (percent total : ℕ) (j : Judgement) → levelOf percent ≡ accepted level → ledgerOf ledger (length errors) ≡ accepted total → outOfRange te total ≡ false →
       judgedAt level ledger start errors te (f .interval) ≡ accepted j → JudgeFacts percent ledger n start errors te j
@@ -101,7 +99,8 @@ module _ (level : Level) (ledger : List ℕ) (n start : ℕ) (errors : List ℕ)
       let o = of-lines j e in
       let g = good ledger (length errors) total judged in
       let t = in-range te total range in
-      let known = amounts-known o in
+      let known = lines-known o in
+      let short : length (amountsOf lines) < 64 = omega (arith, known .amounts .count, o .few) in
       let same : projectionOf lines ≡ j .projection = ap (λ (k : Judgement). k .projection) (o .answer) in
       let precision : precisionCents level (f .interval) (amountsOf lines) ≡ j .precision = ap (λ (k : Judgement). k .precision) (o .answer) in
       let sums : projectionOf lines .full + projectionOf lines .sampled ≡ j .projection .full + j .projection .sampled = ap (λ (p : Projection). p .full + p .sampled) same in
@@ -114,10 +113,11 @@ module _ (level : Level) (ledger : List ℕ) (n start : ℕ) (errors : List ℕ)
         within = omega (arith, t .1, g .added);
         projected = same-projection o ∙ ap accepted same;
         few = omega (arith, o .few, ap (λ (p : Projection). p .m) same);
+        errors-within = known .within;
         figures = f;
         started = started;
-        signed = sym (never-negative level (f .interval) (amountsOf lines) (known .0) (known .1) ∙ ap pos precision);
-        none = λ z. sym precision ∙ no-precision level (f .interval) (amountsOf lines) (known .0) (known .1) z;
+        signed = sym (never-negative level (f .interval) (amountsOf lines) short (known .amounts .each) ∙ ap pos precision);
+        none = λ z. sym precision ∙ no-precision level (f .interval) (amountsOf lines) short (known .amounts .each) z;
         limit = limit;
         verdict = sym (ap (λ (k : Judgement). k .verdict) (o .answer)) ∙ (λ i. verdictOf te (sums i) (ap (λ (k : Judgement). k .«upper_limit») (o .answer) i));
       }
@@ -132,12 +132,6 @@ judge-facts percent ledger n start errors te j e =
     (λ t g. let c = after-accepted (λ figures. judgedAt level ledger start errors te (figures .interval)) (figuresFor ledger n start (length errors)) j g in
     judge-facts-at level ledger n start errors te (c .0) (c .1) percent (b .0) j (a .1) (b .1) t (c .2)) (b .2)
 
--- a number for each verdict, by which two of them differ
-abbrev verdictNumber : Verdict → ℕ
-verdictNumber Below = 0
-verdictNumber Inconclusive = 1
-verdictNumber Above = 2
-
 -- when each verdict is given
 module _ (te projected limit : ℕ) where
   by-verdict : (P : Verdict → Type 0) → (te < projected → P Above) → (projected ≤ te → limit ≤ te → P Below) → (projected ≤ te → te < limit → P Inconclusive) →
@@ -149,19 +143,19 @@ module _ (te projected limit : ℕ) where
 
   pub above-exactly : (verdictOf te projected limit ≡ Above) ↔ (te < projected)
   above-exactly = (
-    by-verdict (λ v. v ≡ Above → te < projected) (λ h e. h) (λ h l e. omega (arith, ap verdictNumber e)) (λ h l e. omega (arith, ap verdictNumber e)),
+    by-verdict (λ v. v ≡ Above → te < projected) (λ h e. h) (λ h l e. let z : _≡_ {A = ℕ} 0 1 = cc in absurd (omega arith)) (λ h l e. let z : _≡_ {A = ℕ} 0 1 = cc in absurd (omega arith)),
     λ h. sym (is-above te projected limit h),
   )
 
   pub below-exactly : (verdictOf te projected limit ≡ Below) ↔ ((projected ≤ te) × (limit ≤ te))
   below-exactly = (
-    by-verdict (λ v. v ≡ Below → (projected ≤ te) × (limit ≤ te)) (λ h e. omega (arith, ap verdictNumber e)) (λ h l e. (h, l)) (λ h l e. omega (arith, ap verdictNumber e)),
+    by-verdict (λ v. v ≡ Below → (projected ≤ te) × (limit ≤ te)) (λ h e. let z : _≡_ {A = ℕ} 0 1 = cc in absurd (omega arith)) (λ h l e. (h, l)) (λ h l e. let z : _≡_ {A = ℕ} 0 1 = cc in absurd (omega arith)),
     λ h. sym (is-below te projected limit (h .0) (h .1)),
   )
 
   pub inconclusive-exactly : (verdictOf te projected limit ≡ Inconclusive) ↔ ((projected ≤ te) × (te < limit))
   inconclusive-exactly = (
-    by-verdict (λ v. v ≡ Inconclusive → (projected ≤ te) × (te < limit)) (λ h e. omega (arith, ap verdictNumber e)) (λ h l e. omega (arith, ap verdictNumber e)) (λ h l e. (h, l)),
+    by-verdict (λ v. v ≡ Inconclusive → (projected ≤ te) × (te < limit)) (λ h e. let z : _≡_ {A = ℕ} 0 1 = cc in absurd (omega arith)) (λ h l e. let z : _≡_ {A = ℕ} 0 1 = cc in absurd (omega arith)) (λ h l e. (h, l)),
     λ h. sym (is-inconclusive te projected limit (h .0) (h .1)),
   )
 
@@ -175,10 +169,10 @@ lastNumbers = lineNumbers ++ (16 ∷ [])
 
 module _ (level : Level) (ledger : List ℕ) (n start : ℕ) (errors : List ℕ) (te : ℕ) where
   pub lines-give : (J : ℕ) → Gives lastNumbers (judgedAt level ledger start errors te J)
-  unfolding judgedAt judgedLines checkedLines
+  unfolding judgedAt judgedLines judgedWith
   lines-give J =
-      gives-after lastNumbers (judgedLines level te J) (checkedLines J start ledger errors)
-      (gives-among lineNumbers lastNumbers tt (checkedLines J start ledger errors) (checked-gives 0 (linesOf J start ledger errors)))
+      gives-after lastNumbers (judgedLines level te J) (checkedLines 0 J start ledger errors)
+      (gives-among lineNumbers lastNumbers tt (checkedLines 0 J start ledger errors) (checked-give 0 J start ledger errors))
       (λ good. by-test (Gives lastNumbers) (ltb mostErrors (projectionOf good .m)) (λ t. tt) (λ t. tt))
 
   level-known-gives : Gives judgeNumbers (judgedLedger ledger n start errors te level)
@@ -187,7 +181,7 @@ module _ (level : Level) (ledger : List ℕ) (n start : ℕ) (errors : List ℕ)
       gives-after judgeNumbers (judgedTotal level ledger n start errors te) (ledgerOf ledger (length errors)) (gives-among ledgerNumbers judgeNumbers tt (ledgerOf ledger (length errors)) (ledger-gives ledger (length errors)))
       (λ total. by-test (Gives judgeNumbers) (outOfRange te total) (λ t. tt)
       (λ t. gives-after judgeNumbers (λ figures. judgedAt level ledger start errors te (figures .interval)) (figuresFor ledger n start (length errors))
-      (gives-among drawNumbers judgeNumbers tt (figuresFor ledger n start (length errors)) (figures-give ledger n start (length errors)))
+      (gives-among figuresNumbers judgeNumbers tt (figuresFor ledger n start (length errors)) (figures-give ledger n start (length errors)))
       (λ figures. gives-among lastNumbers judgeNumbers tt (judgedAt level ledger start errors te (figures .interval)) (lines-give (figures .interval)))))
 
 pub judge-gives : (percent : ℕ) (ledger : List ℕ) (n start : ℕ) (errors : List ℕ) (te : ℕ) → Gives judgeNumbers (judgeOf percent ledger n start errors te)
@@ -195,3 +189,17 @@ unfolding judgeOf
 judge-gives percent ledger n start errors te =
     gives-after judgeNumbers (judgedLedger ledger n start errors te) (levelOf percent) (gives-among (1 ∷ []) judgeNumbers tt (levelOf percent) (level-gives percent))
     (λ level. level-known-gives level ledger n start errors te)
+
+-- where the figures for the start are accepted: what the ledger gives, 1, 6, and those of the lines and of m
+pub judge-started : (numbers : List ℕ) (percent : ℕ) (ledger : List ℕ) (n start : ℕ) (errors : List ℕ) (te : ℕ) (f : Figures) →
+    figuresFor ledger n start (length errors) ≡ accepted f → T (allAmong (1 ∷ 6 ∷ lastNumbers) numbers) → Gives numbers (ledgerOf ledger (length errors)) →
+    Gives numbers (judgeOf percent ledger n start errors te)
+unfolding judgeOf judgedLedger judgedFigures
+judge-started numbers percent ledger n start errors te f started own g =
+    gives-after numbers (judgedLedger ledger n start errors te) (levelOf percent)
+    (gives-among (1 ∷ 6 ∷ lastNumbers) numbers own (levelOf percent) (gives-among (1 ∷ []) (1 ∷ 6 ∷ lastNumbers) tt (levelOf percent) (level-gives percent)))
+    (λ level. gives-after numbers (judgedTotal level ledger n start errors te) (ledgerOf ledger (length errors)) g
+    (λ total. by-test (Gives numbers) (outOfRange te total) (λ t. gives-among {A = Judgement} (1 ∷ 6 ∷ lastNumbers) numbers own (refused 6 0) tt)
+    (λ t. subst (λ (o : Outcome Figures). Gives numbers (after (λ figures. judgedAt level ledger start errors te (figures .interval)) o)) (sym started)
+    (gives-among (1 ∷ 6 ∷ lastNumbers) numbers own (judgedAt level ledger start errors te (f .interval))
+    (gives-among lastNumbers (1 ∷ 6 ∷ lastNumbers) tt (judgedAt level ledger start errors te (f .interval)) (lines-give level ledger n start errors te (f .interval)))))))

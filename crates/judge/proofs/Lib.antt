@@ -1,5 +1,5 @@
 -- What the proofs of several functions use, and what callers cite.
+pub mod Amounts
 pub mod Answer
-pub mod Lines
 pub mod Laws
 pub mod Worked

@@ -8,14 +8,14 @@ use Rattle.terms.specs.Outcome.{Outcome, accepted, refused}
 use Rattle.factors.specs.Levels.{levelOf}
 use Rattle.factors.specs.Factors.{rf, stepOf}
 use Rattle.factors.specs.Table.{table}
-use Rattle.ledger.specs.Ledger as ledger
+use Rattle.ledger.specs.Ledger.{runningFrom, runningTotal, ledgerOf}
 use Rattle.split.specs.Rounds.{rounds}
 use Rattle.split.specs.Split.{splitOf, figuresFrom}
 use Rattle.draw.specs.Points.{points, covers}
-use Rattle.draw.specs.Draw.{figuresFor}
+use Rattle.split.specs.Start.{figuresFor}
 use Rattle.project.specs.Lines.{amount, linesFrom, linesOf, total, amountsOf}
 use Rattle.project.specs.Project.{checkedLine, checkedFrom, checkedLines}
-use Rattle.precision.specs.Sorting.{sortDown}
+use Rattle.sorting.specs.Sorting.{sortDown}
 use Rattle.precision.specs.Precision.{hundredths, roundUp, precisionOf}
 use Rattle.judge.specs.declared.Verdict.{Verdict}
 use Rattle.judge.specs.declared.Verdict.the-variants.{Below, Inconclusive, Above}
@@ -35,7 +35,7 @@ with sampled m precision limit verdict =
 
 -- start 25 at level 90 and at level 50
 pub at-25 : (judgeOf 90 claims 3 25 found 100 ≡ with 30 3 107 137 Inconclusive) × (judgeOf 50 claims 3 25 found 100 ≡ with 30 3 28 58 Below)
-unfolding judgeOf levelOf judgedLedger judgedFigures figuresFor splitOf figuresFrom ledger.ledgerOf ledger.linesOf ledger.linesFrom rounds judgedAt checkedLines checkedFrom checkedLine linesOf linesFrom judgedLines total amountsOf amount covers points divUp concluded verdictOf precisionOf hundredths roundUp sortDown rf stepOf table
+unfolding judgeOf levelOf judgedLedger judgedFigures figuresFor splitOf figuresFrom ledgerOf runningTotal runningFrom rounds judgedAt checkedLines checkedFrom checkedLine linesOf linesFrom judgedLines total amountsOf amount covers points divUp concluded verdictOf precisionOf hundredths roundUp sortDown rf stepOf table
 at-25 = (refl, refl)
 
 -- a limit equal to TE is below, and a projected error equal to TE is not above
@@ -43,13 +43,13 @@ pub edges : (judgeOf 50 claims 3 25 found 58 ≡ with 30 3 28 58 Below)
     × (judgeOf 50 claims 3 25 found 57 ≡ with 30 3 28 58 Inconclusive)
     × (judgeOf 50 claims 3 25 found 30 ≡ with 30 3 28 58 Inconclusive)
     × (judgeOf 50 claims 3 25 found 29 ≡ with 30 3 28 58 Above)
-unfolding judgeOf levelOf judgedLedger judgedFigures figuresFor splitOf figuresFrom ledger.ledgerOf ledger.linesOf ledger.linesFrom rounds judgedAt checkedLines checkedFrom checkedLine linesOf linesFrom judgedLines total amountsOf amount covers points divUp concluded verdictOf precisionOf hundredths roundUp sortDown rf stepOf table
+unfolding judgeOf levelOf judgedLedger judgedFigures figuresFor splitOf figuresFrom ledgerOf runningTotal runningFrom rounds judgedAt checkedLines checkedFrom checkedLine linesOf linesFrom judgedLines total amountsOf amount covers points divUp concluded verdictOf precisionOf hundredths roundUp sortDown rf stepOf table
 edges = (refl, refl, refl, refl)
 
 -- no interval: precision 0, by the formula
 pub no-interval : judgeOf 95 (10 ∷ []) 2 0 (4 ∷ []) 10
     ≡ accepted (record { projection = record { full = 4; sampled = 0; m = 0 }; precision = 0; «upper_limit» = 4; verdict = Below })
-unfolding judgeOf levelOf judgedLedger judgedFigures figuresFor splitOf figuresFrom ledger.ledgerOf ledger.linesOf ledger.linesFrom rounds judgedAt checkedLines checkedFrom checkedLine linesOf linesFrom judgedLines total amountsOf amount covers points divUp concluded verdictOf precisionOf hundredths roundUp sortDown rf stepOf table
+unfolding judgeOf levelOf judgedLedger judgedFigures figuresFor splitOf figuresFrom ledgerOf runningTotal runningFrom rounds judgedAt checkedLines checkedFrom checkedLine linesOf linesFrom judgedLines total amountsOf amount covers points divUp concluded verdictOf precisionOf hundredths roundUp sortDown rf stepOf table
 no-interval = refl
 
 -- the refusals in their order: each input earns the next one too
@@ -61,16 +61,16 @@ pub in-order : (judgeOf 91 claims 0 40 (31 ∷ []) 0 ≡ refused 1 0)
     × (judgeOf 90 claims 3 40 (31 ∷ 0 ∷ 0 ∷ 0 ∷ []) 120 ≡ refused 11 0)
     × (judgeOf 90 claims 3 0 (31 ∷ 0 ∷ 0 ∷ 5 ∷ []) 120 ≡ refused 14 0)
     × (judgeOf 90 claims 3 0 found 120 ≡ refused 15 3)
-unfolding judgeOf levelOf judgedLedger judgedFigures figuresFor splitOf figuresFrom ledger.ledgerOf ledger.linesOf ledger.linesFrom rounds judgedAt checkedLines checkedFrom checkedLine linesOf linesFrom judgedLines total amountsOf amount covers points divUp
+unfolding judgeOf levelOf judgedLedger judgedFigures figuresFor splitOf figuresFrom ledgerOf runningTotal runningFrom rounds judgedAt checkedLines checkedFrom checkedLine linesOf linesFrom judgedLines total amountsOf amount covers points divUp
 in-order = (refl, refl, refl, refl, refl, refl, refl, refl)
 
 -- 63 errors pass
 pub most : judgeOf 90 (replicate 63 1) 63 0 (replicate 63 1) 63 ≡ with 63 63 12 75 Inconclusive
-unfolding judgeOf levelOf judgedLedger judgedFigures figuresFor splitOf figuresFrom ledger.ledgerOf ledger.linesOf ledger.linesFrom rounds judgedAt checkedLines checkedFrom checkedLine linesOf linesFrom judgedLines total amountsOf amount covers points divUp concluded verdictOf precisionOf hundredths roundUp sortDown rf stepOf table
+unfolding judgeOf levelOf judgedLedger judgedFigures figuresFor splitOf figuresFrom ledgerOf runningTotal runningFrom rounds judgedAt checkedLines checkedFrom checkedLine linesOf linesFrom judgedLines total amountsOf amount covers points divUp concluded verdictOf precisionOf hundredths roundUp sortDown rf stepOf table
 most = refl
 
 -- 64 are 16; where a line has an error and is not drawn, 15 comes first
 pub too-many : (judgeOf 90 (replicate 64 1) 64 0 (replicate 64 1) 64 ≡ refused 16 0)
     × (judgeOf 90 (replicate 64 2 ++ (1 ∷ 1 ∷ [])) 65 0 (replicate 66 1) 65 ≡ refused 15 65)
-unfolding judgeOf levelOf judgedLedger judgedFigures figuresFor splitOf figuresFrom ledger.ledgerOf ledger.linesOf ledger.linesFrom rounds judgedAt checkedLines checkedFrom checkedLine linesOf linesFrom judgedLines total amountsOf amount covers points divUp
+unfolding judgeOf levelOf judgedLedger judgedFigures figuresFor splitOf figuresFrom ledgerOf runningTotal runningFrom rounds judgedAt checkedLines checkedFrom checkedLine linesOf linesFrom judgedLines total amountsOf amount covers points divUp
 too-many = (refl, refl)

@@ -1,34 +1,29 @@
--- Steps 6 and 7, the judgement: its answer for every level, ledger, number of draws, start, errors and TE. These are definitions: nothing is
--- assumed.
-use Prim.Native.Nat.{ℕ, _+_, _^_, _<_}
+-- Steps 6 and 7, the judgement: its answer for every level, ledger, number of draws, start, errors and TE. Definitions: nothing is assumed.
+use mathlib.Core.Path.{_≡_}
+use Prim.Native.Nat.{ℕ, _+_, _*_, _^_, _≤_, _<_}
 use mathlib.Core.Bool.{Bool, true}
-use mathlib.Core.List.{List}
+use mathlib.Core.List.{List, _++_}
 use lib.Dec.{ltb, leb, eqb}
-use lib.ListN.{length}
+use lib.ListN.{length, take, drop}
 use Rattle.terms.specs.Outcome.{Outcome, accepted, refused, refusedBy, after}
-use Rattle.terms.specs.Numbers.{pick}
-use Rattle.terms.specs.Limits.{mostErrors}
+use Rattle.terms.specs.Numbers.{pick, AllUpTo}
+use Rattle.terms.specs.Limits.{mostErrors, mostTotal}
 use Rattle.factors.specs.declared.Level.{Level}
 use Rattle.factors.specs.Levels.{levelOf}
 use Rattle.ledger.specs.Ledger.{ledgerOf}
-use Rattle.split.specs.declared.Figures.{Figures}
-use Rattle.split.specs.Split.{figuresFrom}
-use Rattle.draw.specs.Draw.{startIn, figuresFor}
-use Rattle.project.specs.declared.Line.{Line}
-use Rattle.project.specs.declared.Projection.{Projection}
+use Rattle.split.specs.Start.{figuresFor}
+use Rattle.project.specs.declared.{Line.Line, Projection.Projection}
 use Rattle.project.specs.Lines.{projectionOf, amountsOf}
 use Rattle.project.specs.Project.{checkedLines}
+use Rattle.sorting.specs.Sorting.{sortDown}
 use Rattle.precision.specs.Precision.{precisionCents}
-use Rattle.judge.specs.declared.Verdict.{Verdict}
+use Rattle.judge.specs.declared.{Verdict.Verdict, Judgement.Judgement, JudgeAnswer.JudgeAnswer}
 use Rattle.judge.specs.declared.Verdict.the-variants.{Below, Inconclusive, Above}
-use Rattle.judge.specs.declared.Judgement.{Judgement}
-use Rattle.judge.specs.declared.JudgeAnswer.{JudgeAnswer}
-use Rattle.judge.specs.declared.JudgeAnswer.the-variants.{Judged, Refused}
 
 -- what an answer says: the judgement, or a refusal's number and place
 abbrev pub judgeSays : JudgeAnswer → Outcome Judgement
-judgeSays (Judged judgement) = accepted judgement
-judgeSays (Refused why) = refusedBy why
+judgeSays (JudgeAnswer.Judged judgement) = accepted judgement
+judgeSays (JudgeAnswer.Refused why) = refusedBy why
 
 -- step 7: above when the projected error exceeds TE, below when the upper limit is not above TE, otherwise inconclusive
 unfoldable pub verdictOf : ℕ → ℕ → ℕ → Verdict
@@ -46,23 +41,22 @@ concluded te projection precision =
     }
 
 -- 16 where m exceeds 63
+unfoldable pub judgedWith : Level → ℕ → ℕ → Projection → List ℕ → Outcome Judgement
+judgedWith level te J projection amounts =
+    pick (ltb mostErrors (projection .m)) (refused 16 0) (accepted (concluded te projection (precisionCents level J amounts)))
+
 unfoldable pub judgedLines : Level → ℕ → ℕ → List Line → Outcome Judgement
-judgedLines level te J lines =
-    pick (ltb mostErrors (projectionOf lines .m)) (refused 16 0)
-    (accepted (concluded te (projectionOf lines) (precisionCents level J (amountsOf lines))))
+unfolding judgedWith
+judgedLines level te J lines = judgedWith level te J (projectionOf lines) (amountsOf lines)
 
 -- after 14 and 15, line by line
 unfoldable pub judgedAt : Level → List ℕ → ℕ → List ℕ → ℕ → ℕ → Outcome Judgement
-judgedAt level ledger start errors te J = after (judgedLines level te J) (checkedLines J start ledger errors)
+judgedAt level ledger start errors te J = after (judgedLines level te J) (checkedLines 0 J start ledger errors)
 
 -- at the interval of the split's figures, after 8, 9, 10 and 11
 unfoldable pub judgedFigures : Level → List ℕ → ℕ → ℕ → List ℕ → ℕ → Outcome Judgement
 judgedFigures level ledger n start errors te =
     after (λ figures. judgedAt level ledger start errors te (figures .interval)) (figuresFor ledger n start (length errors))
-
--- the figures for a start, from a total that is known
-unfoldable pub figuresAt : List ℕ → ℕ → ℕ → ℕ → Outcome Figures
-figuresAt ledger n start total = after (startIn start) (figuresFrom ledger n total)
 
 -- 6 where TE is 0 or above the total
 abbrev pub outOfRange : ℕ → ℕ → Bool
@@ -79,6 +73,18 @@ judgedLedger ledger n start errors te level = after (judgedTotal level ledger n 
 unfoldable pub judgeOf : ℕ → List ℕ → ℕ → ℕ → List ℕ → ℕ → Outcome Judgement
 judgeOf percent ledger n start errors te = after (judgedLedger ledger n start errors te) (levelOf percent)
 
--- the limit fits 64 bits
-pub record Conclusive (projection : Projection) (precision : ℕ) : Type 0 where
-  pub fits : projection .full + projection .sampled + precision < 2 ^ 64
+-- what `judge` promises
+pub record JudgePromise (percent : ℕ) (ledger : List ℕ) (n start : ℕ) (errors : List ℕ) (te : ℕ) (r : JudgeAnswer) : Type 0 where
+  pub answer : judgeSays r ≡ judgeOf percent ledger n start errors te
+
+-- where m is at most 63, the first m of a list are the amounts of the projection, none above the interval
+pub record Concludable (J : ℕ) (projection : Projection) (amounts : List ℕ) : Type 0 where
+  pub narrow : J ≤ mostTotal
+  pub room : projection .m ≤ mostErrors → projection .m ≤ length amounts
+  pub each : projection .m ≤ mostErrors → AllUpTo J (take (projection .m) amounts)
+  pub fits : projection .full + projection .sampled + (22 * J + 1) < 2 ^ 64
+
+-- what `judge_amounts` promises: the answer, and the amounts, sorted unless 16 is given
+pub record AmountsPromise (level : Level) (J te : ℕ) (projection : Projection) (amounts : List ℕ) (r : JudgeAnswer) (amounts′ : List ℕ) : Type 0 where
+  pub answer : judgeSays r ≡ judgedWith level te J projection (take (projection .m) amounts)
+  pub amounts-left : amounts′ ≡ pick (ltb mostErrors (projection .m)) amounts (sortDown (take (projection .m) amounts) ++ drop (projection .m) amounts)

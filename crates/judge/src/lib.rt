@@ -5,14 +5,16 @@ use ledger::LedgerAnswer;
 use project::ProjectAnswer;
 use project::Projection;
 use split::SplitAnswer;
+use terms::Cent;
+use terms::Item;
 use terms::Refusal;
 ghost use mathlib.Core.Path.{_≡_};
+ghost use Prim.Native.Nat.{_+_, _^_, _<_};
 ghost use lib.ListN.{length};
 ghost use Rattle.terms.specs.Outcome.{accepted};
 ghost use Rattle.ledger.specs.Ledger.{ledgerOf};
-ghost use Rattle.split.specs.Split.{splitSays, Totalled};
 ghost use Rattle.project.specs.Project.{Ready};
-ghost use Rattle.judge.specs.Judge.{judgeSays, verdictOf, concluded, Conclusive, figuresAt, judgedAt, judgedFigures, judgedLedger, judgeOf};
+ghost use Rattle.judge.specs.Judge.{judgeSays, verdictOf, concluded, Concludable, AmountsPromise, judgedAt, judgedFigures, judgedLedger, JudgePromise};
 
 pub enum Verdict {
     Below,
@@ -48,7 +50,7 @@ fn verdict_of(te: u64, projected: u64, limit: u64) -> Verdict
 
 // The upper limit is both projected sums and the precision.
 fn conclude(te: u64, projection: Projection, precision: u64) -> Judgement
-    requires { ⌜ Conclusive projection precision ⌝ }
+    requires { ⌜ projection .full + projection .sampled + precision < 2 ^ 64 ⌝ }
     ensures { λ r. ⌜ r ≡ concluded te projection precision ⌝ }
 {
     let projected = projection.full + projection.sampled;
@@ -62,41 +64,44 @@ fn conclude(te: u64, projection: Projection, precision: u64) -> Judgement
     }
 }
 
-// 14 and 15 line by line, then 16, or the judgement at an interval and a start.
+// Precision, upper limit and verdict, from a projection and its amounts, the first m of a list; or 16.
+fn judge_amounts(
+    level: Level,
+    interval: u64,
+    te: u64,
+    projection: Projection,
+    amounts: &mut [u64],
+) -> JudgeAnswer
+    requires { ⌜ Concludable interval projection (now amounts) ⌝ }
+    ensures { λ r. ⌜ AmountsPromise level interval te projection (now (amounts .entry)) r (now (amounts .exit)) ⌝ }
+{
+    let m = projection.m as usize;
+    if m > terms::MOST_ERRORS {
+        return JudgeAnswer::Refused(Refusal::TooManyErrors);
+    }
+    let precision = precision::precision(level, interval, &mut amounts[..m]);
+    let judgement = conclude(te, projection, precision);
+    JudgeAnswer::Judged(judgement)
+}
+
+// 14 and 15 line by line, then what follows from the amounts, at an interval and a start.
 fn judge_lines(
     level: Level,
     ledger: &[u64],
     interval: u64,
-    start: u64,
+    start: Cent,
     errors: &[u64],
     te: u64,
 ) -> JudgeAnswer
-    requires { ⌜ Ready interval start (now ledger) (now errors) ⌝ }
-    ensures { λ r. ⌜ judgeSays r ≡ judgedAt level (now (ledger .entry)) start (now (errors .entry)) te interval ⌝ }
+    requires { ⌜ Ready 0 interval (start .0) (now ledger) (now errors) ⌝ }
+    ensures { λ r. ⌜ judgeSays r ≡ judgedAt level (now (ledger .entry)) (start .0) (now (errors .entry)) te interval ⌝ }
 {
     let mut amounts = [0u64; terms::MOST_ERRORS];
-    match project::gather(ledger, interval, start, errors, &mut amounts) {
+    match project::gather(Item(0), ledger, interval, start, errors, &mut amounts) {
         ProjectAnswer::Refused(why) => JudgeAnswer::Refused(why),
         ProjectAnswer::Projected(projection) => {
-            let m = projection.m as usize;
-            if m > terms::MOST_ERRORS {
-                return JudgeAnswer::Refused(Refusal::TooManyErrors);
-            }
-            let precision = precision::precision(level, interval, &mut amounts[..m]);
-            let judgement = conclude(te, projection, precision);
-            JudgeAnswer::Judged(judgement)
+            judge_amounts(level, interval, te, projection, &mut amounts)
         }
-    }
-}
-
-// The figures for a start, from a total that is known: 8, 9, 10, 11.
-fn figures_at(ledger: &[u64], n: u64, start: u64, total: u64) -> SplitAnswer
-    requires { ⌜ Totalled (now ledger) total ⌝ }
-    ensures { λ r. ⌜ splitSays r ≡ figuresAt (now (ledger .entry)) n start total ⌝ }
-{
-    match split::split_total(ledger, n, total) {
-        SplitAnswer::Refused(why) => SplitAnswer::Refused(why),
-        SplitAnswer::Split(figures) => draw::start_in(start, figures),
     }
 }
 
@@ -105,15 +110,15 @@ fn judge_total(
     level: Level,
     ledger: &[u64],
     n: u64,
-    start: u64,
+    start: Cent,
     errors: &[u64],
     te: u64,
     total: u64,
 ) -> JudgeAnswer
     requires { ⌜ accepted total ≡ ledgerOf (now ledger) (length (now errors)) ⌝ }
-    ensures { λ r. ⌜ judgeSays r ≡ judgedFigures level (now (ledger .entry)) n start (now (errors .entry)) te ⌝ }
+    ensures { λ r. ⌜ judgeSays r ≡ judgedFigures level (now (ledger .entry)) n (start .0) (now (errors .entry)) te ⌝ }
 {
-    match figures_at(ledger, n, start, total) {
+    match split::figures_at(ledger, n, start, total) {
         SplitAnswer::Refused(why) => JudgeAnswer::Refused(why),
         SplitAnswer::Split(figures) => {
             let interval = figures.interval;
@@ -127,11 +132,11 @@ fn judge_level(
     level: Level,
     ledger: &[u64],
     n: u64,
-    start: u64,
+    start: Cent,
     errors: &[u64],
     te: u64,
 ) -> JudgeAnswer
-    ensures { λ r. ⌜ judgeSays r ≡ judgedLedger (now (ledger .entry)) n start (now (errors .entry)) te level ⌝ }
+    ensures { λ r. ⌜ judgeSays r ≡ judgedLedger (now (ledger .entry)) n (start .0) (now (errors .entry)) te level ⌝ }
 {
     match ledger::judge_ledger(ledger, errors.len()) {
         LedgerAnswer::Refused(why) => JudgeAnswer::Refused(why),
@@ -149,10 +154,10 @@ fn judge_level(
 
 // The judgement: projection, precision, upper limit and verdict.
 pub fn judge(level: u8, ledger: &[u64], n: u64, start: u64, errors: &[u64], te: u64) -> JudgeAnswer
-    ensures { λ r. ⌜ judgeSays r ≡ judgeOf level (now (ledger .entry)) n start (now (errors .entry)) te ⌝ }
+    ensures { λ r. ⌜ JudgePromise level (now (ledger .entry)) n start (now (errors .entry)) te r ⌝ }
 {
     match factors::level_of(level) {
         LevelAnswer::Refused(why) => JudgeAnswer::Refused(why),
-        LevelAnswer::Known(known) => judge_level(known, ledger, n, start, errors, te),
+        LevelAnswer::Known(known) => { judge_level(known, ledger, n, Cent(start), errors, te) },
     }
 }

@@ -1,7 +1,7 @@
 // The judgement of a lent ledger: its length, its lines one by one, and its total.
 use terms::Refusal;
 ghost use mathlib.Core.Path.{_≡_};
-ghost use Rattle.ledger.specs.Ledger.{ledgerSays, linesOf, ledgerOf};
+ghost use Rattle.ledger.specs.Ledger.{ledgerSays, runningTotal, LedgerPromise};
 
 // A ledger's total, or the first refusal.
 pub enum LedgerAnswer {
@@ -11,7 +11,7 @@ pub enum LedgerAnswer {
 
 // Refusals 3 and 4, line by line, and the total where there is none.
 fn judge_lines(ledger: &[u64]) -> LedgerAnswer
-    ensures { λ r. ⌜ ledgerSays r ≡ linesOf (now (ledger .entry)) ⌝ }
+    ensures { λ r. ⌜ ledgerSays r ≡ runningTotal (now (ledger .entry)) ⌝ }
 {
     let mut total: u64 = 0;
     let mut line: usize = 0;
@@ -31,7 +31,7 @@ fn judge_lines(ledger: &[u64]) -> LedgerAnswer
 
 // Refusals 2, 13, 3 and 4, 5, in this order. `beside` is the length of the buffer that is lent with the ledger.
 pub fn judge_ledger(ledger: &[u64], beside: usize) -> LedgerAnswer
-    ensures { λ r. ⌜ ledgerSays r ≡ ledgerOf (now (ledger .entry)) beside ⌝ }
+    ensures { λ r. ⌜ LedgerPromise (now (ledger .entry)) beside r ⌝ }
 {
     if ledger.len() > terms::MOST_LINES {
         return LedgerAnswer::Refused(Refusal::TooManyLines);

@@ -2,8 +2,10 @@
 use results::ReadResult;
 use results::SheetResult;
 use results::WriteResult;
-ghost use Rattle.workfile.specs.Promises.{planWith};
-ghost use Rattle.mus.specs.File.{ReadSeen, WriteSeen, SheetSeen};
+ghost use Rattle.workfile.specs.Promises.{planWith, readSays, writeSays, ReadPromise, WritePromise};
+ghost use Rattle.sheet.specs.Sheet.{sheetSays, SheetPromise};
+ghost use Rattle.results.specs.Seen.{Sees};
+ghost use Rattle.results.specs.Results.{readSeen, writeSeen, sheetSeen};
 
 // Reads a working file into the buffers.
 #[no_mangle]
@@ -13,7 +15,7 @@ pub extern "C" fn mus_read(
     values: &mut [u64],
     errors: &mut [u64],
 ) -> ReadResult
-    ensures { λ r. ⌜ ReadSeen (now (file .entry)) (now (words .entry)) (now (values .entry)) (now (errors .entry)) r (now (words .exit)) (now (values .exit)) (now (errors .exit)) ⌝ }
+    ensures { λ r. ⌜ Sees readSeen readSays (λ a. ReadPromise (now (file .entry)) (now (words .entry)) (now (values .entry)) (now (errors .entry)) a (now (words .exit)) (now (values .exit)) (now (errors .exit))) r ⌝ }
 {
     results::file::of_read(reader::read(file, words, values, errors))
 }
@@ -29,7 +31,7 @@ pub extern "C" fn mus_write(
     errors: &[u64],
     file: &mut [u8],
 ) -> WriteResult
-    ensures { λ r. ⌜ WriteSeen (planWith level te ae) (now (words .entry)) (now (values .entry)) (now (errors .entry)) (now (file .entry)) r (now (file .exit)) ⌝ }
+    ensures { λ r. ⌜ Sees writeSeen writeSays (λ a. WritePromise (planWith level te ae) (now (words .entry)) (now (values .entry)) (now (errors .entry)) (now (file .entry)) a (now (file .exit))) r ⌝ }
 {
     results::file::of_write(writer::write(level, te, ae, words, values, errors, file))
 }
@@ -37,7 +39,7 @@ pub extern "C" fn mus_write(
 // Prints the sheet of a working file onto the page.
 #[no_mangle]
 pub extern "C" fn mus_sheet(file: &[u8], page: &mut [u8]) -> SheetResult
-    ensures { λ r. ⌜ SheetSeen (now (file .entry)) (now (page .entry)) r (now (page .exit)) ⌝ }
+    ensures { λ r. ⌜ Sees sheetSeen sheetSays (λ a. SheetPromise (now (file .entry)) (now (page .entry)) a (now (page .exit))) r ⌝ }
 {
     results::file::of_sheet(sheet::sheet_in(file, page))
 }

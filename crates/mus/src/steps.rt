@@ -5,21 +5,19 @@ use results::ProjectResult;
 use results::SizeResult;
 use results::SplitResult;
 use results::StartResult;
-ghost use mathlib.Core.Path.{_≡_};
-ghost use lib.ListN.{length};
-ghost use Rattle.terms.specs.Outcome.{left};
-ghost use Rattle.size.specs.Size.{sizeOf};
-ghost use Rattle.split.specs.Split.{splitOf, marksOf};
-ghost use Rattle.start.specs.Start.{startOf};
-ghost use Rattle.draw.specs.Draw.{figuresFor, marksAt, drawOf};
-ghost use Rattle.project.specs.Project.{projectOf};
-ghost use Rattle.judge.specs.Judge.{judgeOf};
+ghost use Rattle.size.specs.Size.{sizeSays, SizePromise};
+ghost use Rattle.split.specs.Split.{splitSays, SplitPromise};
+ghost use Rattle.start.specs.Start.{startSays, StartPromise};
+ghost use Rattle.draw.specs.Draw.{drawSays, DrawPromise};
+ghost use Rattle.project.specs.Project.{projectSays, ProjectPromise};
+ghost use Rattle.judge.specs.Judge.{judgeSays, JudgePromise};
+ghost use Rattle.results.specs.Seen.{Sees};
 ghost use Rattle.results.specs.Results.{sizeSeen, splitSeen, startSeen, drawSeen, projectSeen, judgeSeen};
 
 // The number of draws.
 #[no_mangle]
 pub extern "C" fn mus_size(level: u8, total: u64, te: u64, ae: u64) -> SizeResult
-    ensures { λ r. ⌜ r ≡ sizeSeen (sizeOf level total te ae) ⌝ }
+    ensures { λ r. ⌜ Sees sizeSeen sizeSays (SizePromise level total te ae) r ⌝ }
 {
     results::steps::of_size(size::size(level, total, te, ae))
 }
@@ -27,9 +25,7 @@ pub extern "C" fn mus_size(level: u8, total: u64, te: u64, ae: u64) -> SizeResul
 // The split, and the marks: 2 for full, 0 for the others.
 #[no_mangle]
 pub extern "C" fn mus_split(ledger: &[u64], n: u64, marks: &mut [u8]) -> SplitResult
-    ensures answer { λ r. ⌜ r ≡ splitSeen (splitOf (now (ledger .entry)) n (length (now (marks .entry)))) ⌝ }
-    ensures marked { λ r. ⌜ now (marks .exit)
-        ≡ left (marksOf (now (ledger .entry))) (now (marks .entry)) (splitOf (now (ledger .entry)) n (length (now (marks .entry)))) ⌝ }
+    ensures { λ r. ⌜ Sees splitSeen splitSays (λ a. SplitPromise (now (ledger .entry)) n (now (marks .entry)) a (now (marks .exit))) r ⌝ }
 {
     results::steps::of_split(split::split(ledger, n, marks))
 }
@@ -37,7 +33,7 @@ pub extern "C" fn mus_split(ledger: &[u64], n: u64, marks: &mut [u8]) -> SplitRe
 // The random start below an interval.
 #[no_mangle]
 pub extern "C" fn mus_start(interval: u64, words: &[u64]) -> StartResult
-    ensures { λ r. ⌜ r ≡ startSeen (startOf interval (now (words .entry))) ⌝ }
+    ensures { λ r. ⌜ Sees startSeen startSays (StartPromise interval (now (words .entry))) r ⌝ }
 {
     results::steps::of_start(start::start(interval, words))
 }
@@ -45,9 +41,7 @@ pub extern "C" fn mus_start(interval: u64, words: &[u64]) -> StartResult
 // The draw, and the marks: 1 for drawn, 2 for full, 0 for the others.
 #[no_mangle]
 pub extern "C" fn mus_draw(ledger: &[u64], n: u64, start: u64, marks: &mut [u8]) -> DrawResult
-    ensures answer { λ r. ⌜ r ≡ drawSeen (drawOf (now (ledger .entry)) n start (length (now (marks .entry)))) ⌝ }
-    ensures marked { λ r. ⌜ now (marks .exit)
-        ≡ left (marksAt (now (ledger .entry)) start) (now (marks .entry)) (figuresFor (now (ledger .entry)) n start (length (now (marks .entry)))) ⌝ }
+    ensures { λ r. ⌜ Sees drawSeen drawSays (λ a. DrawPromise (now (ledger .entry)) n start (now (marks .entry)) a (now (marks .exit))) r ⌝ }
 {
     results::steps::of_draw(draw::draw(ledger, n, start, marks))
 }
@@ -55,7 +49,7 @@ pub extern "C" fn mus_draw(ledger: &[u64], n: u64, start: u64, marks: &mut [u8])
 // The projection of the errors.
 #[no_mangle]
 pub extern "C" fn mus_project(ledger: &[u64], n: u64, start: u64, errors: &[u64]) -> ProjectResult
-    ensures { λ r. ⌜ r ≡ projectSeen (projectOf (now (ledger .entry)) n start (now (errors .entry))) ⌝ }
+    ensures { λ r. ⌜ Sees projectSeen projectSays (ProjectPromise (now (ledger .entry)) n start (now (errors .entry))) r ⌝ }
 {
     results::steps::of_project(project::project(ledger, n, start, errors))
 }
@@ -70,7 +64,7 @@ pub extern "C" fn mus_judge(
     errors: &[u64],
     te: u64,
 ) -> JudgeResult
-    ensures { λ r. ⌜ r ≡ judgeSeen (judgeOf level (now (ledger .entry)) n start (now (errors .entry)) te) ⌝ }
+    ensures { λ r. ⌜ Sees judgeSeen judgeSays (JudgePromise level (now (ledger .entry)) n start (now (errors .entry)) te) r ⌝ }
 {
     results::steps::of_judge(judge::judge(level, ledger, n, start, errors, te))
 }

@@ -1,78 +1,86 @@
--- What `parse` promises, from its tests of the rooms and its two passes. Assumes nothing.
+-- What `parse` promises, from its test of the rooms and its two passes. Assumes nothing.
 use mathlib.Core.Path.{_≡_, refl, sym, ap, _∙_}
-use mathlib.Core.Bool.{true, false}
+use mathlib.Core.Bool.{Bool, true, false, not}
 use mathlib.Core.List.{List}
-use Prim.Native.Nat.{ℕ, _≤_, _<_}
-use borrow.Author.Tests.{le-ltb, lt-ltb}
+use Prim.Native.Nat.{ℕ}
+use lib.Dec.{ltb}
 use lib.ListN.{length}
-use Rattle.terms.specs.Outcome.{Outcome, accepted, refused, after, left}
-use Rattle.terms.proofs.Outcomes.{never, after-accepted}
-use Rattle.workfile.specs.Content.{mostWords, mostFileLines}
-use Rattle.workfile.specs.Promises.{over, Rooms}
+use borrow.Author.Tests.{ltb-false, leb-true}
+use Rattle.terms.specs.Numbers.{pick}
+use Rattle.terms.proofs.Tests.{by-test}
+use Rattle.workfile.specs.Content.{Content, mostWords, mostFileLines}
+use Rattle.workfile.specs.Promises.{Rooms, counted}
 use Rattle.workfile.specs.declared.Contents.{Contents}
-use Rattle.notation.specs.Contents.{wrongNumber, Draft, textOf}
-use Rattle.notation.specs.Parse.{parseSays, counted, parseOf, ParsePost}
-use Rattle.notation.specs.Steps.{Passed}
+use Rattle.entry.specs.declared.Wrong.{Wrong}
 use Rattle.entry.specs.declared.Wrong.the-variants.{NoRoom}
+use Rattle.entry.proofs.Runs.{turned, unturned}
+use Rattle.records.proofs.Judging.{clash}
+use Rattle.notation.specs.Contents.{Reading, says, faulty, textOf}
+use Rattle.notation.specs.Parse.{parseSays, readingCounts, leftOver, roomFor, parseOf, ParsePromise}
+use Rattle.notation.specs.Steps.{OnePass}
 use Rattle.notation.specs.declared.Fault.{Fault}
 use Rattle.notation.specs.declared.ParseAnswer.{ParseAnswer}
 use Rattle.notation.specs.declared.ParseAnswer.the-variants.{Parsed, Faulty}
 
-module _ (text w v e : List ℕ) where
-  unroomed : parseOf text (length w) (length v) (length e) ≡ refused (wrongNumber NoRoom) 0 → ParsePost text w v e (Faulty (record { line = 0; wrong = NoRoom })) w v e
-  unroomed p =
+pub has-rooms : (w v e : List ℕ) → roomFor (length w) (length v) (length e) ≡ true → Rooms w v e
+unfolding roomFor
+has-rooms w v e =
+    by-test Enough (ltb (length w) mostWords) (λ _ q. clash (cc))
+    (λ a. by-test Enough (ltb (length v) mostFileLines) (λ _ q. clash (cc)) (λ b q. record { words = ltb-false _ _ a; values = ltb-false _ _ b; errors = leb-true _ _ q }))
+  where
+    Enough : Bool → Type 0
+    Enough t = t ≡ true → Rooms w v e
+
+-- what a reading with counts was read from
+pub was-said : (o : Reading Content) {k : Contents} → readingCounts o ≡ says k → (c : Content) × (o ≡ says c) × (counted c ≡ k)
+was-said (says c) e = (c, refl, cc)
+was-said (faulty wrong line) e = clash (cc)
+
+was-faulty : (o : Reading Content) {wrong : Wrong} {line : ℕ} → readingCounts o ≡ faulty wrong line → o ≡ faulty wrong line
+was-faulty (says c) e = clash (cc)
+was-faulty (faulty other place) {wrong} {line} e =
+    let w : other ≡ wrong = cc in
+    let l : place ≡ line = cc in
+    λ i. faulty (w i) (l i)
+
+-- the test of the rooms
+pub rooms : {w v e : List ℕ} {enough : Bool} → enough ≡ roomFor (length w) (length v) (length e) → not enough ≡ false → Rooms w v e
+rooms {w} {v} {e} {enough} test room = has-rooms w v e (sym test ∙ unturned enough room)
+
+module _ (text w v e : List ℕ) {enough : Bool} (test : enough ≡ roomFor (length w) (length v) (length e)) where
+  -- a fault leaves the buffers
+  left-alone : {wrong : Wrong} {line : ℕ} → parseOf text (length w) (length v) (length e) ≡ faulty wrong line → ParsePromise text w v e (Faulty (record { line = line; wrong = wrong })) w v e
+  left-alone q =
       record {
-        answer = sym (ap (after counted) p);
-        words = sym (ap (left (λ c. over (c .words) w) w) p);
-        values = sym (ap (left (λ c. over (c .values) v) v) p);
-        errors = sym (ap (left (λ c. over (c .errors) e) e) p);
+        answer = sym (ap readingCounts q);
+        words-left = sym (ap (leftOver (λ c. c .words) w) q);
+        values-left = sym (ap (leftOver (λ c. c .values) v) q);
+        errors-left = sym (ap (leftOver (λ c. c .errors) e) q);
       }
 
-  pub no-words : length w < mostWords → ParsePost text w v e (Faulty (record { line = 0; wrong = NoRoom })) w v e
+  decided : (b : Bool) → enough ≡ b → parseOf text (length w) (length v) (length e) ≡ pick b (textOf text) (faulty NoRoom 0)
   unfolding parseOf
-  no-words h = unroomed (simp (lt-ltb _ _ h))
+  decided b q = ap (λ (b : Bool). pick b (textOf text) (faulty NoRoom 0)) (sym test ∙ q)
 
-  pub no-values : mostWords ≤ length w → length v < mostFileLines → ParsePost text w v e (Faulty (record { line = 0; wrong = NoRoom })) w v e
-  unfolding parseOf
-  no-values g h = unroomed (simp (le-ltb _ _ g, lt-ltb _ _ h))
+  pub no-room : not enough ≡ true → ParsePromise text w v e (Faulty (record { line = 0; wrong = NoRoom })) w v e
+  no-room q = left-alone (decided false (turned enough q))
 
-  pub no-errors : mostWords ≤ length w → mostFileLines ≤ length v → length e < mostFileLines → ParsePost text w v e (Faulty (record { line = 0; wrong = NoRoom })) w v e
-  unfolding parseOf
-  no-errors g k h = unroomed (simp (le-ltb _ _ g, le-ltb _ _ k, lt-ltb _ _ h))
+  module _ (room : not enough ≡ false) where
+    roomed : parseOf text (length w) (length v) (length e) ≡ textOf text
+    roomed = decided true (unturned enough room)
 
-  roomed : Rooms w v e → parseOf text (length w) (length v) (length e) ≡ textOf text
-  unfolding parseOf
-  roomed rooms = simp (le-ltb _ _ (rooms .words), le-ltb _ _ (rooms .values), le-ltb _ _ (rooms .errors))
+    module _ {r : ParseAnswer} (first : parseSays r ≡ readingCounts (textOf text)) where
+      pub found-faulty : {fault : Fault} → r ≡ Faulty fault → ParsePromise text w v e (Faulty fault) w v e
+      found-faulty {fault} q = left-alone (roomed ∙ was-faulty (textOf text) (sym first ∙ ap parseSays q))
 
--- a refused text leaves a buffer
-left-alone : {n p : ℕ} (f : Draft → List ℕ) (old : List ℕ) (o : Outcome Draft) → refused n p ≡ after counted o → old ≡ left f old o
-left-alone f old (accepted c) q = never q
-left-alone f old (refused n p) q = refl
-
-module _ {text w v e w₁ v₁ e₁ : List ℕ} {r : ParseAnswer} (rooms : Rooms w v e) (first : Passed text false w v e r w₁ v₁ e₁) where
-  pub found-faulty : {fault : Fault} → r ≡ Faulty fault → ParsePost text w v e (Faulty fault) w₁ v₁ e₁
-  found-faulty {fault} q =
-      let says : refused (wrongNumber (fault .wrong)) (fault .line) ≡ after counted (textOf text) = sym (ap parseSays q) ∙ first .answer in
-      let same = sym (roomed text w v e rooms) in
-      let quiet = first .quiet refl in
-      record {
-        answer = says ∙ ap (after counted) same;
-        words = quiet .0 ∙ left-alone (λ c. over (c .words) w) w (textOf text) says ∙ ap (left (λ c. over (c .words) w) w) same;
-        values = quiet .1 ∙ left-alone (λ c. over (c .values) v) v (textOf text) says ∙ ap (left (λ c. over (c .values) v) v) same;
-        errors = quiet .2 ∙ left-alone (λ c. over (c .errors) e) e (textOf text) says ∙ ap (left (λ c. over (c .errors) e) e) same;
-      }
-
-  pub found-whole : {contents : Contents} {w₂ v₂ e₂ : List ℕ} {r₂ : ParseAnswer} → r ≡ Parsed contents → Passed text true w₁ v₁ e₁ r₂ w₂ v₂ e₂
-      → ParsePost text w v e r₂ w₂ v₂ e₂
-  found-whole {contents} q second =
-      let a = after-accepted counted (textOf text) contents (sym (first .answer) ∙ ap parseSays q) in
-      let c = a .0 in
-      let same : accepted c ≡ parseOf text (length w) (length v) (length e) = sym (a .1) ∙ sym (roomed text w v e rooms) in
-      let quiet = first .quiet refl in
-      let kept = second .kept c refl (a .1) in
-      record {
-        answer = second .answer ∙ ap (after counted) (sym (roomed text w v e rooms));
-        words = kept .0 ∙ ap (over (c .words)) (quiet .0) ∙ ap (left (λ d. over (d .words) w) w) same;
-        values = kept .1 ∙ ap (over (c .values)) (quiet .1) ∙ ap (left (λ d. over (d .values) v) v) same;
-        errors = kept .2 ∙ ap (over (c .errors)) (quiet .2) ∙ ap (left (λ d. over (d .errors) e) e) same;
-      }
+      pub found-whole : {contents : Contents} → r ≡ Parsed contents → {w′ v′ e′ : List ℕ} {r′ : ParseAnswer} → OnePass text w v e r′ w′ v′ e′ → ParsePromise text w v e r′ w′ v′ e′
+      found-whole q second =
+          let said = was-said (textOf text) (sym first ∙ ap parseSays q) in
+          let kept = second .kept (said .0) (said .1) in
+          let same = sym (said .1) ∙ sym roomed in
+          record {
+            answer = second .answer ∙ ap readingCounts (sym roomed);
+            words-left = kept .0 ∙ ap (leftOver (λ c. c .words) w) same;
+            values-left = kept .1 ∙ ap (leftOver (λ c. c .values) v) same;
+            errors-left = kept .2 ∙ ap (leftOver (λ c. c .errors) e) same;
+          }

@@ -1,90 +1,67 @@
--- What is known of every text that is accepted, and that the promise of `parse` leaves no freedom. Assumes nothing.
+-- What is known of every text that is not faulty, and that the promise of `parse` leaves no freedom. Assumes nothing.
 use mathlib.Core.Path.{_≡_, refl, sym, ap, subst, _∙_}
+use mathlib.Core.Bool.{Bool, false}
 use mathlib.Core.List.{List, [], _∷_}
-use Prim.Native.Nat.{ℕ, zero, suc, _≤_}
+use Prim.Native.Nat.{ℕ, suc, _≤_}
 use native.Mathlib.Omega.{arith}
+use lib.ListN.{length}
+use Rattle.terms.specs.Numbers.{sum}
 use Rattle.terms.specs.Outcome.{accepted}
-use Rattle.terms.proofs.Outcomes.{never}
-use Rattle.workfile.specs.Content.{encode, longestFile}
-use Rattle.workfile.specs.Promises.{writeOf}
+use Rattle.workfile.specs.Content.{Content, closing, encode, longestFile}
+use Rattle.workfile.specs.Decode.{tallyOf, grow}
+use Rattle.workfile.specs.Rules.{Rule}
+use Rattle.workfile.specs.Promises.{planWith, writeOf}
+use Rattle.workfile.proofs.Growing.{SoFar, at-first, one-more, end-same}
+use Rattle.workfile.proofs.OneFile.{Counts}
 use Rattle.workfile.proofs.Longest.{encode-short}
 use Rattle.workfile.proofs.Promises.{counts-write}
-use Rattle.entry.specs.Text.{linesOf}
+use Rattle.entry.specs.Text.{textLines}
 use Rattle.entry.specs.Records.{recordIn}
-use Rattle.notation.specs.Contents.{wrongNumber, Draft, contentOf, empty, stateOf, judged, grow, goOn, readLines, textOf}
-use Rattle.notation.specs.Parse.{parseSays, ParsePost}
-use Rattle.entry.specs.declared.Wrong.{Wrong}
-use Rattle.entry.specs.declared.Wrong.the-variants.{UnknownKind, NumberMissing, NotNumber, NumberTooLarge, FieldTooMany, NoPlan, SecondPlan, LevelTooLarge, OutOfOrder, TooManyWords, TooManyLines, TotalTooLarge, UnknownLine, LineNotRising, ErrorZero, NoRoom}
-use Rattle.notation.specs.declared.Judged.{Judged}
-use Rattle.notation.specs.declared.Judged.the-variants.{Fits, Breaks}
-use Rattle.notation.specs.declared.Fault.{Fault}
+use Rattle.records.proofs.Judging.{clash}
+use Rattle.notation.specs.Contents.{says, takenOf, grown, emptyContent, stateOf, goOn, readLines, textOf}
+use Rattle.notation.specs.Parse.{parseSays, ParsePromise}
+use Rattle.notation.specs.declared.Taken.{Taken}
+use Rattle.notation.specs.declared.Taken.the-variants.{With, Not}
 use Rattle.notation.specs.declared.ParseAnswer.{ParseAnswer}
 use Rattle.notation.specs.declared.ParseAnswer.the-variants.{Parsed, Faulty}
-use Rattle.notation.proofs.Growing.{rule, Legal, legal-empty, legal-grown}
-use Rattle.notation.proofs.Passing.{its-content}
+use Rattle.notation.proofs.Taking.{took}
+use Rattle.notation.proofs.Passing.{ending, its-content}
 
--- what the lines of a text add to a legal content is legal
-lines-legal : (lines : List (List ℕ)) (line : ℕ) (c d : Draft) → Legal c → readLines line c lines ≡ accepted d → Legal d
-unfolding readLines
-lines-legal [] line c d l e = subst Legal (its-content c line d e) l
-lines-legal (bytes ∷ later) line c d l e = go (judged (stateOf c) (recordIn bytes)) refl e (lines-legal later (suc line) (grow c (recordIn bytes)) d)
+-- what the end of a text completes has a file
+end-counts : (c : Content) → SoFar c → Counts (grow c (closing c))
+end-counts c so =
+    let law : Rule (tallyOf c) (closing c) = (refl, refl) in
+    let more = one-more c (closing c) law so in
+    record { few-words = more .few-words; few-lines = more .few-lines; total = more .total; same = end-same c (length (c .values)) (sum (c .values)) so law }
+
+-- and so what the lines of a text say
+lines-count : (lines : List (List ℕ)) (line : ℕ) (planned : Bool) (c d : Content) → SoFar c → readLines line planned c lines ≡ says d → Counts d
+unfolding readLines ending
+lines-count [] line planned c d so e = subst Counts (its-content planned c line d e) (end-counts c so)
+lines-count (bytes ∷ later) line planned c d so e =
+    go (takenOf (stateOf planned c) (recordIn bytes)) refl e (λ p. lines-count later (suc line) p (grown c (recordIn bytes)) d)
   where
-    go : (j : Judged) → judged (stateOf c) (recordIn bytes) ≡ j → goOn j line (readLines (suc line) (grow c (recordIn bytes)) later) ≡ accepted d
-        → (Legal (grow c (recordIn bytes)) → readLines (suc line) (grow c (recordIn bytes)) later ≡ accepted d → Legal d) → Legal d
-    go (Fits s) q f again = again (legal-grown c (recordIn bytes) (rule (stateOf c) (recordIn bytes) s q) l) f
-    go (Breaks wrong) q f again = never f
+    go : (t : Taken) → takenOf (stateOf planned c) (recordIn bytes) ≡ t → goOn t line (λ p. readLines (suc line) p (grown c (recordIn bytes)) later) ≡ says d
+        → ((p : Bool) → SoFar (grown c (recordIn bytes)) → readLines (suc line) p (grown c (recordIn bytes)) later ≡ says d → Counts d) → Counts d
+    go (With next) q f again = again (next .planned) (took planned c (recordIn bytes) next so q .so-far) f
+    go (Not wrong) q f again = clash (cc)
 
-text-legal : (text : List ℕ) (c : Draft) → textOf text ≡ accepted c → Legal c
+text-counts : (text : List ℕ) (c : Content) → textOf text ≡ says c → Counts c
 unfolding textOf
-text-legal text c e = lines-legal (linesOf text) 1 empty c legal-empty e
+text-counts text c e = lines-count (textLines text) 1 false emptyContent c (at-first (planWith 0 0 0)) e
 
--- so what an accepted text says is written, into any room that is as long as the longest file
-pub text-writes : (text : List ℕ) (c : Draft) (room : ℕ) → textOf text ≡ accepted c → longestFile ≤ room → writeOf (contentOf c) room ≡ accepted (encode (contentOf c))
-text-writes text c room e h = counts-write (contentOf c) room (text-legal text c e .counts) (omega (arith, encode-short (contentOf c) (text-legal text c e .counts)))
-
--- the faults in the order of their numbers
-listed : List Wrong
-listed =
-    NoRoom ∷ UnknownKind ∷ NumberMissing ∷ NotNumber ∷ NumberTooLarge ∷ FieldTooMany ∷ NoPlan ∷ SecondPlan ∷ LevelTooLarge ∷ OutOfOrder ∷ TooManyWords ∷ TooManyLines ∷ TotalTooLarge ∷ UnknownLine ∷ LineNotRising ∷ ErrorZero ∷ NoRoom ∷ []
-
-entry : List Wrong → ℕ → Wrong
-entry [] k = NoRoom
-entry (w ∷ l) zero = w
-entry (w ∷ l) (suc k) = entry l k
-
--- a fault is found again by its number
-found : (w : Wrong) → entry listed (wrongNumber w) ≡ w
-unfolding entry listed
-found UnknownKind = refl
-found NumberMissing = refl
-found NotNumber = refl
-found NumberTooLarge = refl
-found FieldTooMany = refl
-found NoPlan = refl
-found SecondPlan = refl
-found LevelTooLarge = refl
-found OutOfOrder = refl
-found TooManyWords = refl
-found TooManyLines = refl
-found TotalTooLarge = refl
-found UnknownLine = refl
-found LineNotRising = refl
-found ErrorZero = refl
-found NoRoom = refl
-
--- so no two faults share a number
-pub one-fault : (a b : Wrong) → wrongNumber a ≡ wrongNumber b → a ≡ b
-one-fault a b e = sym (found a) ∙ ap (entry listed) e ∙ found b
+-- so what a text says is written, into any room that is as long as the longest file
+pub text-writes : (text : List ℕ) (c : Content) (room : ℕ) → textOf text ≡ says c → longestFile ≤ room → writeOf c room ≡ accepted (encode c)
+text-writes text c room e h = counts-write c room (text-counts text c e) (omega (arith, encode-short c (text-counts text c e)))
 
 -- two answers that say the same are the same
 pub said-once : (r s : ParseAnswer) → parseSays r ≡ parseSays s → r ≡ s
 said-once (Parsed a) (Parsed b) e = let q : a ≡ b = cc in ap Parsed q
-said-once (Parsed a) (Faulty g) e = never (sym e)
-said-once (Faulty f) (Parsed b) e = never e
+said-once (Parsed a) (Faulty g) e = clash (cc)
+said-once (Faulty f) (Parsed b) e = clash (cc)
 said-once (Faulty f) (Faulty g) e =
-    let n : wrongNumber (f .wrong) ≡ wrongNumber (g .wrong) = cc in
     let l : f .line ≡ g .line = cc in
-    let w = one-fault (f .wrong) (g .wrong) n in
+    let w : f .wrong ≡ g .wrong = cc in
     λ i. Faulty (record { line = l i; wrong = w i })
 
 -- any two results that keep the promise agree
@@ -94,12 +71,12 @@ pub record Agree (r s : ParseAnswer) (w v e w′ v′ e′ : List ℕ) : Type 0 
   pub values : v ≡ v′
   pub errors : e ≡ e′
 
-pub parsed-once : {text w v e w₁ v₁ e₁ w₂ v₂ e₂ : List ℕ} {r s : ParseAnswer} → ParsePost text w v e r w₁ v₁ e₁ → ParsePost text w v e s w₂ v₂ e₂
+pub parsed-once : {text w v e w₁ v₁ e₁ w₂ v₂ e₂ : List ℕ} {r s : ParseAnswer} → ParsePromise text w v e r w₁ v₁ e₁ → ParsePromise text w v e s w₂ v₂ e₂
     → Agree r s w₁ v₁ e₁ w₂ v₂ e₂
 parsed-once {r = r} {s = s} p q =
     record {
       answers = said-once r s (p .answer ∙ sym (q .answer));
-      words = p .words ∙ sym (q .words);
-      values = p .values ∙ sym (q .values);
-      errors = p .errors ∙ sym (q .errors);
+      words = p .words-left ∙ sym (q .words-left);
+      values = p .values-left ∙ sym (q .values-left);
+      errors = p .errors-left ∙ sym (q .errors-left);
     }

@@ -1,7 +1,7 @@
 -- What the proofs of several functions use, and what callers cite.
-pub mod Growing
-pub mod Storing
+pub mod Taking
 pub mod Passing
+pub mod Filling
 pub mod Answers
 pub mod Laws
 pub mod Worked

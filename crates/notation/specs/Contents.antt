@@ -1,140 +1,86 @@
--- What a text says, record by record: each is judged by those before it, and is taken into the content or is wrong. These are definitions:
--- nothing is assumed.
-use Prim.Native.Nat.{ℕ, suc, _+_}
-use mathlib.Core.List.{List, [], _∷_, _++_}
-use lib.Dec.{eqb, ltb}
-use lib.ListN.{length, set}
-use Rattle.terms.specs.Outcome.{Outcome, accepted, refused}
-use Rattle.terms.specs.Numbers.{pick, sum}
-use Rattle.workfile.specs.Content.{Content, mostWords, mostFileLines, sumBound}
+-- What a text says, line by line: each is judged by the working file's rules, and is taken in or is wrong. Definitions: nothing is assumed.
+use Prim.Native.Nat.{ℕ, suc}
+use mathlib.Core.Bool.{Bool, true, false}
+use mathlib.Core.List.{List, [], _∷_}
+use lib.Dec.{ltb}
+use Rattle.terms.specs.Numbers.{pick}
+use Rattle.workfile.specs.Content.{Content, mostFileLines, closing}
+use Rattle.workfile.specs.Decode.{tallyOf, grow, start}
 use Rattle.workfile.specs.Promises.{planWith, contentWith}
-use Rattle.entry.specs.Text.{linesOf}
+use Rattle.workfile.specs.declared.{Plan.Plan, Tally.Tally, FileRecord.FileRecord}
+use Rattle.records.specs.Judging.{judged}
+use Rattle.records.specs.declared.Judged.{Judged}
+use Rattle.entry.specs.Text.{textLines}
 use Rattle.entry.specs.Records.{recordIn}
-use Rattle.entry.specs.declared.Wrong.{Wrong}
-use Rattle.entry.specs.declared.Wrong.the-variants.{UnknownKind, NumberMissing, NotNumber, NumberTooLarge, FieldTooMany, NoPlan, SecondPlan, LevelTooLarge, OutOfOrder, TooManyWords, TooManyLines, TotalTooLarge, UnknownLine, LineNotRising, ErrorZero, NoRoom}
-use Rattle.entry.specs.declared.Record.{Record}
-use Rattle.entry.specs.declared.Record.the-variants.{Nothing, Plan, Word, Value, Error, Unreadable}
-use Rattle.notation.specs.declared.State.{State}
-use Rattle.notation.specs.declared.Judged.{Judged}
-use Rattle.notation.specs.declared.Judged.the-variants.{Fits, Breaks}
+use Rattle.entry.specs.declared.{Wrong.Wrong, Record.Record}
+use Rattle.notation.specs.declared.{State.State, Taken.Taken}
 
--- the number of each fault
-abbrev pub wrongNumber : Wrong → ℕ
-wrongNumber UnknownKind = 1
-wrongNumber NumberMissing = 2
-wrongNumber NotNumber = 3
-wrongNumber NumberTooLarge = 4
-wrongNumber FieldTooMany = 5
-wrongNumber NoPlan = 6
-wrongNumber SecondPlan = 7
-wrongNumber LevelTooLarge = 8
-wrongNumber OutOfOrder = 9
-wrongNumber TooManyWords = 10
-wrongNumber TooManyLines = 11
-wrongNumber TotalTooLarge = 12
-wrongNumber UnknownLine = 13
-wrongNumber LineNotRising = 14
-wrongNumber ErrorZero = 15
-wrongNumber NoRoom = 16
+-- what a text says, or what is wrong in it and at which line
+pub data Reading (A : Type 0) : Type 0 where
+  says : A → Reading A
+  faulty : Wrong → ℕ → Reading A
 
--- What the lines of a text say so far: errors has one entry for each value, 0 where there is no E; `next` is the lowest line that an E may name.
-pub record Draft : Type 0 where
-  pub plans : ℕ
-  pub level : ℕ
-  pub te : ℕ
-  pub ae : ℕ
-  pub words : List ℕ
-  pub values : List ℕ
-  pub errors : List ℕ
-  pub next : ℕ
+-- which rule bars a record: the first of its kind that it breaks, and the last where it breaks no other; no line writes the last two
+unfoldable pub brokenRule : Tally → FileRecord → Wrong
+brokenRule t (FileRecord.Word w) = pick (ltb 0 (t .lines)) Wrong.OutOfOrder Wrong.TooManyWords
+brokenRule t (FileRecord.Value v) = pick (ltb 0 (t .«next_line»)) Wrong.OutOfOrder (pick (ltb (t .lines) mostFileLines) Wrong.TotalTooLarge Wrong.TooManyLines)
+brokenRule t (FileRecord.ErrorOf l e) = pick (ltb l (t .lines)) (pick (ltb l (t .«next_line»)) Wrong.LineNotRising Wrong.ErrorZero) Wrong.UnknownLine
+brokenRule t (FileRecord.End n s) = Wrong.UnknownKind
+brokenRule t FileRecord.Nothing = Wrong.UnknownKind
 
--- the same as what a working file holds
-abbrev pub contentOf : Draft → Content
-contentOf d = contentWith (planWith (d .level) (d .te) (d .ae)) (d .words) (d .values) (d .errors)
+-- P once, with a level of one byte
+unfoldable pub takenPlan : State → ℕ → ℕ → ℕ → Taken
+takenPlan s level te ae =
+    pick (s .planned) (Taken.Not Wrong.SecondPlan)
+    (pick (ltb 255 level) (Taken.Not Wrong.LevelTooLarge) (Taken.With (record { planned = true; plan = planWith level te ae; tally = s .tally })))
 
-abbrev pub empty : Draft
-empty = record { plans = 0; level = 0; te = 0; ae = 0; words = []; values = []; errors = []; next = 0 }
+-- any other record after P, as the file's rules judge it
+abbrev pub ruledBy : State → FileRecord → Judged → Taken
+ruledBy s r (Judged.Next t n) = Taken.With (record { planned = true; plan = s .plan; tally = t })
+ruledBy s r Judged.Last = Taken.Not (brokenRule (s .tally) r)
+ruledBy s r Judged.Bad = Taken.Not (brokenRule (s .tally) r)
 
--- what the rules look at
-abbrev pub stateOf : Draft → State
-stateOf c =
-    record { plans = c .plans; level = c .level; te = c .te; ae = c .ae; words = length (c .words); lines = length (c .values); sum = sum (c .values); next = c .next }
+unfoldable pub takenRecord : State → FileRecord → Taken
+unfolding judged brokenRule
+takenRecord s r = pick (s .planned) (ruledBy s r (judged (s .tally) r)) (Taken.Not Wrong.NoPlan)
 
--- the state with one record more
-abbrev pub withPlan : State → ℕ → ℕ → ℕ → State
-withPlan s level te ae = record { plans = 1; level = level; te = te; ae = ae; words = s .words; lines = s .lines; sum = s .sum; next = s .next }
+unfoldable pub takenOf : State → Record → Taken
+unfolding takenPlan takenRecord
+takenOf s Record.Nothing = Taken.With s
+takenOf s (Record.Plan level te ae) = takenPlan s level te ae
+takenOf s (Record.Filed r) = takenRecord s r
+takenOf s (Record.Unreadable wrong) = Taken.Not wrong
 
-abbrev pub withWord : State → State
-withWord s = record { plans = s .plans; level = s .level; te = s .te; ae = s .ae; words = s .words + 1; lines = s .lines; sum = s .sum; next = s .next }
+-- the content with one line more
+abbrev pub withPlan : Content → Plan → Content
+withPlan c p = contentWith p (c .words) (c .values) (c .errors)
 
-abbrev pub withValue : State → ℕ → State
-withValue s value = record { plans = s .plans; level = s .level; te = s .te; ae = s .ae; words = s .words; lines = s .lines + 1; sum = s .sum + value; next = s .next }
+unfoldable pub grown : Content → Record → Content
+unfolding grow
+grown c Record.Nothing = c
+grown c (Record.Plan level te ae) = withPlan c (planWith level te ae)
+grown c (Record.Filed r) = grow c r
+grown c (Record.Unreadable wrong) = c
 
-abbrev pub withError : State → ℕ → State
-withError s line = record { plans = s .plans; level = s .level; te = s .te; ae = s .ae; words = s .words; lines = s .lines; sum = s .sum; next = line + 1 }
+-- before the first line, and what the rules look at
+abbrev pub emptyContent : Content
+emptyContent = start (planWith 0 0 0)
 
--- P once and first, with a level of one byte
-unfoldable pub planJudged : State → ℕ → ℕ → ℕ → Judged
-planJudged s level te ae =
-    pick (eqb (s .plans) 0)
-    (pick (ltb 255 level) (Breaks LevelTooLarge) (Fits (withPlan s level te ae)))
-    (Breaks SecondPlan)
+abbrev pub stateOf : Bool → Content → State
+stateOf planned c = record { planned = planned; plan = c .plan; tally = tallyOf c }
 
--- W before any L, at most 64
-unfoldable pub wordJudged : State → Judged
-wordJudged s =
-    pick (eqb (s .plans) 0) (Breaks NoPlan)
-    (pick (ltb 0 (s .lines)) (Breaks OutOfOrder)
-    (pick (ltb (s .words) mostWords) (Fits (withWord s)) (Breaks TooManyWords)))
+abbrev pub goOn : Taken → ℕ → (Bool → Reading Content) → Reading Content
+goOn (Taken.With s) line rest = rest (s .planned)
+goOn (Taken.Not wrong) line rest = faulty wrong line
 
--- L before any E, at most 2,048, their sum within 64 bits
-unfoldable pub valueJudged : State → ℕ → Judged
-valueJudged s value =
-    pick (eqb (s .plans) 0) (Breaks NoPlan)
-    (pick (ltb 0 (s .next)) (Breaks OutOfOrder)
-    (pick (ltb (s .lines) mostFileLines)
-    (pick (ltb (s .sum + value) sumBound) (Fits (withValue s value)) (Breaks TotalTooLarge))
-    (Breaks TooManyLines)))
+-- Line by line, from a line's number, whether P was among those before it, and their content. The text ends with the line after its last, and
+-- its end is the Z that its counts imply: lines without E have error 0.
+unfoldable pub readLines : ℕ → Bool → Content → List (List ℕ) → Reading Content
+unfolding grow takenOf grown recordIn
+readLines line planned c [] = pick planned (says (grow c (closing c))) (faulty Wrong.NoPlan line)
+readLines line planned c (bytes ∷ later) =
+    goOn (takenOf (stateOf planned c) (recordIn bytes)) line (λ planned. readLines (suc line) planned (grown c (recordIn bytes)) later)
 
--- E on rising lines, each of an L; an error above 0
-unfoldable pub errorJudged : State → ℕ → ℕ → Judged
-errorJudged s line error =
-    pick (eqb (s .plans) 0) (Breaks NoPlan)
-    (pick (ltb line (s .lines))
-    (pick (ltb line (s .next)) (Breaks LineNotRising)
-    (pick (eqb error 0) (Breaks ErrorZero) (Fits (withError s line))))
-    (Breaks UnknownLine))
-
-unfoldable pub judged : State → Record → Judged
-unfolding planJudged wordJudged valueJudged errorJudged
-judged s Nothing = Fits s
-judged s (Plan level te ae) = planJudged s level te ae
-judged s (Word word) = wordJudged s
-judged s (Value value) = valueJudged s value
-judged s (Error line error) = errorJudged s line error
-judged s (Unreadable wrong) = Breaks wrong
-
--- the content with one record more
-unfoldable pub grow : Draft → Record → Draft
-grow c Nothing = c
-grow c (Plan level te ae) = record { plans = 1; level = level; te = te; ae = ae; words = c .words; values = c .values; errors = c .errors; next = c .next }
-grow c (Word word) = record { plans = c .plans; level = c .level; te = c .te; ae = c .ae; words = c .words ++ (word ∷ []); values = c .values; errors = c .errors; next = c .next }
-grow c (Value value) = record { plans = c .plans; level = c .level; te = c .te; ae = c .ae; words = c .words; values = c .values ++ (value ∷ []); errors = c .errors ++ (0 ∷ []); next = c .next }
-grow c (Error line error) = record { plans = c .plans; level = c .level; te = c .te; ae = c .ae; words = c .words; values = c .values; errors = set (c .errors) line error; next = line + 1 }
-grow c (Unreadable wrong) = c
-
-abbrev pub goOn : Judged → ℕ → Outcome Draft → Outcome Draft
-goOn (Fits s) line rest = rest
-goOn (Breaks wrong) line rest = refused (wrongNumber wrong) line
-
--- line by line, from a line's number and the content of those before it; the text ends with the line after its last
-unfoldable pub readLines : ℕ → Draft → List (List ℕ) → Outcome Draft
-unfolding judged grow recordIn
-readLines line c [] = pick (eqb (c .plans) 0) (refused (wrongNumber NoPlan) line) (accepted c)
-readLines line c (bytes ∷ later) =
-    let rest = readLines (suc line) (grow c (recordIn bytes)) later in
-    goOn (judged (stateOf c) (recordIn bytes)) line rest
-
-unfoldable pub textOf : List ℕ → Outcome Draft
-unfolding readLines linesOf
-textOf text = readLines 1 empty (linesOf text)
+unfoldable pub textOf : List ℕ → Reading Content
+unfolding readLines textLines
+textOf text = readLines 1 false emptyContent (textLines text)

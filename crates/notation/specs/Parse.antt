@@ -1,41 +1,44 @@
--- What `parse` answers and leaves in the lent buffers. These are definitions: nothing is assumed.
+-- What `parse` answers and leaves in the lent buffers. Definitions: nothing is assumed.
 use Prim.Native.Nat.{ℕ}
 use mathlib.Core.Path.{_≡_}
+use mathlib.Core.Bool.{Bool, false}
 use mathlib.Core.List.{List}
-use lib.Dec.{ltb}
+use lib.Dec.{leb, ltb}
 use lib.ListN.{length}
-use Rattle.terms.specs.Outcome.{Outcome, accepted, refused, after, left}
 use Rattle.terms.specs.Numbers.{pick}
-use Rattle.workfile.specs.Content.{mostWords, mostFileLines}
-use Rattle.workfile.specs.Promises.{over}
+use Rattle.workfile.specs.Content.{Content, mostWords, mostFileLines}
+use Rattle.workfile.specs.Promises.{over, counted}
 use Rattle.workfile.specs.declared.Contents.{Contents}
-use Rattle.notation.specs.Contents.{wrongNumber, Draft, stateOf, textOf}
-use Rattle.entry.specs.declared.Wrong.the-variants.{NoRoom}
-use Rattle.notation.specs.declared.State.{State}
+use Rattle.entry.specs.declared.Wrong.{Wrong}
+use Rattle.notation.specs.Contents.{Reading, says, faulty, textOf}
 use Rattle.notation.specs.declared.ParseAnswer.{ParseAnswer}
-use Rattle.notation.specs.declared.ParseAnswer.the-variants.{Parsed, Faulty}
 
--- what an answer says: the contents, or a fault's number and the line of the text
-abbrev pub parseSays : ParseAnswer → Outcome Contents
-parseSays (Parsed contents) = accepted contents
-parseSays (Faulty fault) = refused (wrongNumber (fault .wrong)) (fault .line)
+-- what an answer says
+abbrev pub parseSays : ParseAnswer → Reading Contents
+parseSays (ParseAnswer.Parsed contents) = says contents
+parseSays (ParseAnswer.Faulty fault) = faulty (fault .wrong) (fault .line)
 
-abbrev pub countsOf : State → Contents
-countsOf s = record { level = s .level; te = s .te; ae = s .ae; words = s .words; lines = s .lines }
+abbrev pub readingCounts : Reading Content → Reading Contents
+readingCounts (says c) = says (counted c)
+readingCounts (faulty wrong line) = faulty wrong line
 
-abbrev pub counted : Draft → Outcome Contents
-counted c = accepted (countsOf (stateOf c))
+-- a lent buffer at exit: what was read laid over it; a faulty text leaves what was there
+abbrev pub leftOver : (Content → List ℕ) → List ℕ → Reading Content → List ℕ
+leftOver part before (says c) = over (part c) before
+leftOver part before (faulty wrong line) = before
+
+-- room for every legal file
+unfoldable pub roomFor : ℕ → ℕ → ℕ → Bool
+roomFor words values errors = pick (ltb words mostWords) false (pick (ltb values mostFileLines) false (leb mostFileLines errors))
 
 -- What a text says to a caller with room for so many words, values and errors. No room is a fault of no line.
-unfoldable pub parseOf : List ℕ → ℕ → ℕ → ℕ → Outcome Draft
-unfolding textOf
-parseOf text words values errors =
-    pick (ltb words mostWords) (refused (wrongNumber NoRoom) 0)
-    (pick (ltb values mostFileLines) (refused (wrongNumber NoRoom) 0) (pick (ltb errors mostFileLines) (refused (wrongNumber NoRoom) 0) (textOf text)))
+unfoldable pub parseOf : List ℕ → ℕ → ℕ → ℕ → Reading Content
+unfolding roomFor textOf
+parseOf text words values errors = pick (roomFor words values errors) (textOf text) (faulty Wrong.NoRoom 0)
 
--- w, v and e are the buffers before, w′, v′ and e′ after
-pub record ParsePost (text w v e : List ℕ) (r : ParseAnswer) (w′ v′ e′ : List ℕ) : Type 0 where
-  pub answer : parseSays r ≡ after counted (parseOf text (length w) (length v) (length e))
-  pub words : w′ ≡ left (λ c. over (c .words) w) w (parseOf text (length w) (length v) (length e))
-  pub values : v′ ≡ left (λ c. over (c .values) v) v (parseOf text (length w) (length v) (length e))
-  pub errors : e′ ≡ left (λ c. over (c .errors) e) e (parseOf text (length w) (length v) (length e))
+-- the parser's promise: words, values and errors are the buffers before, words′, values′ and errors′ after
+pub record ParsePromise (text words values errors : List ℕ) (r : ParseAnswer) (words′ values′ errors′ : List ℕ) : Type 0 where
+  pub answer : parseSays r ≡ readingCounts (parseOf text (length words) (length values) (length errors))
+  pub words-left : words′ ≡ leftOver (λ c. c .words) words (parseOf text (length words) (length values) (length errors))
+  pub values-left : values′ ≡ leftOver (λ c. c .values) values (parseOf text (length words) (length values) (length errors))
+  pub errors-left : errors′ ≡ leftOver (λ c. c .errors) errors (parseOf text (length words) (length values) (length errors))

@@ -1,68 +1,48 @@
--- What the parts of the code promise: where a record goes, and what one pass over a text gives. These are definitions: nothing is assumed.
-use Prim.Native.Nat.{ℕ, suc, _+_, _≤_, _^_, _<_}
+-- What the parts of the code promise: a line at a place of the text, its record stored, and the pass that stores. Definitions: nothing is assumed.
+use Prim.Native.Nat.{ℕ}
 use mathlib.Core.Path.{_≡_}
-use mathlib.Core.List.{List, [], _∷_}
-use mathlib.Core.Bool.{Bool, true, false}
-use lib.ListN.{length, drop, set}
-use lib.Dec.{eqb}
+use mathlib.Core.List.{List}
 use Rattle.terms.specs.Numbers.{pick}
-use Rattle.terms.specs.Outcome.{Outcome, accepted, refused, after}
-use Rattle.workfile.specs.Content.{mostWords, mostFileLines, sumBound}
+use Rattle.workfile.specs.Content.{Content}
 use Rattle.workfile.specs.Promises.{over}
-use Rattle.workfile.specs.declared.Contents.{Contents}
-use Rattle.notation.specs.Contents.{wrongNumber, Draft, textOf}
-use Rattle.notation.specs.Parse.{parseSays, countsOf, counted}
-use Rattle.entry.specs.declared.Record.{Record}
-use Rattle.entry.specs.declared.Record.the-variants.{Unreadable, Nothing, Plan, Word, Value, Error}
-use Rattle.entry.specs.declared.Wrong.the-variants.{NoPlan}
-use Rattle.notation.specs.declared.State.{State}
-use Rattle.notation.specs.declared.ParseAnswer.{ParseAnswer}
+use Rattle.workfile.specs.declared.{Contents.Contents, Tally.Tally, FileRecord.FileRecord}
+use Rattle.store.specs.Storing.{HasPlace}
+use Rattle.entry.specs.Records.{recordIn}
+use Rattle.entry.specs.Steps.{lineOf, lineAfter}
+use Rattle.entry.specs.declared.{Record.Record, Wrong.Wrong}
+use Rattle.notation.specs.Contents.{Reading, says, faulty, takenOf, textOf}
+use Rattle.notation.specs.Parse.{parseSays, readingCounts}
+use Rattle.notation.specs.declared.{State.State, Taken.Taken, Turn.Turn, ParseAnswer.ParseAnswer}
 
--- what a record that is taken keeps to
-abbrev pub Rule : State → Record → Type 0
-Rule s Nothing = Unit
-Rule s (Plan level te ae) = level ≤ 255
-Rule s (Word word) = s .words < mostWords
-Rule s (Value value) = (s .lines < mostFileLines) × (s .sum + value < sumBound)
-Rule s (Error line error) = line < s .lines
-Rule s (Unreadable wrong) = Unit
+-- the line that begins at a place
+abbrev pub turnWith : Record → ℕ → Taken → Turn
+turnWith found to (Taken.With s) = Turn.On found s to
+turnWith found to (Taken.Not wrong) = Turn.Stop wrong
 
--- where a record goes
-abbrev pub putWords : State → Record → List ℕ → List ℕ
-putWords s Nothing l = l
-putWords s (Plan level te ae) l = l
-putWords s (Word word) l = set l (s .words) word
-putWords s (Value value) l = l
-putWords s (Error line error) l = l
-putWords s (Unreadable wrong) l = l
+unfoldable pub recordAtLine : List ℕ → ℕ → Record
+recordAtLine text at = recordIn (lineOf text at)
 
-abbrev pub putValues : State → Record → List ℕ → List ℕ
-putValues s Nothing l = l
-putValues s (Plan level te ae) l = l
-putValues s (Word word) l = l
-putValues s (Value value) l = set l (s .lines) value
-putValues s (Error line error) l = l
-putValues s (Unreadable wrong) l = l
+unfoldable pub turnOf : List ℕ → ℕ → State → Turn
+turnOf text at s = turnWith (recordAtLine text at) (lineAfter text at) (takenOf s (recordAtLine text at))
 
-abbrev pub putErrors : State → Record → List ℕ → List ℕ
-putErrors s Nothing l = l
-putErrors s (Plan level te ae) l = l
-putErrors s (Word word) l = l
-putErrors s (Value value) l = set l (s .lines) 0
-putErrors s (Error line error) l = set l line error
-putErrors s (Unreadable wrong) l = l
+-- the file's record of a line; none for P and for a line that holds nothing
+abbrev pub filed : Record → FileRecord
+filed Record.Nothing = FileRecord.Nothing
+filed (Record.Plan level te ae) = FileRecord.Nothing
+filed (Record.Filed r) = r
+filed (Record.Unreadable wrong) = FileRecord.Nothing
 
-pub record Kept (storing : Bool) (s : State) (r : Record) (w v e w′ v′ e′ : List ℕ) : Type 0 where
-  pub words : w′ ≡ pick storing (putWords s r w) w
-  pub values : v′ ≡ pick storing (putValues s r v) v
-  pub errors : e′ ≡ pick storing (putErrors s r e) e
+pub record HasPlaceOf (found : Record) (t : Tally) (w v e : List ℕ) : Type 0 where
+  pub place : (r : FileRecord) → found ≡ Record.Filed r → HasPlace t r w v e
 
 -- at the end of the text
-unfoldable pub endOf : State → ℕ → Outcome Contents
-endOf s line = pick (eqb (s .plans) 0) (refused (wrongNumber NoPlan) line) (accepted (countsOf s))
+abbrev pub contentsOf : State → Contents
+contentsOf s = record { level = s .plan .level; te = s .plan .te; ae = s .plan .ae; words = s .tally .words; lines = s .tally .lines }
 
--- one pass over the text, with or without storing
-pub record Passed (text : List ℕ) (storing : Bool) (w v e : List ℕ) (r : ParseAnswer) (w′ v′ e′ : List ℕ) : Type 0 where
-  pub answer : parseSays r ≡ after counted (textOf text)
-  pub quiet : storing ≡ false → (w′ ≡ w) × (v′ ≡ v) × (e′ ≡ e)
-  pub kept : (c : Draft) → storing ≡ true → textOf text ≡ accepted c → (w′ ≡ over (c .words) w) × (v′ ≡ over (c .values) v) × (e′ ≡ over (c .errors) e)
+unfoldable pub endOf : State → ℕ → Reading Contents
+endOf s line = pick (s .planned) (says (contentsOf s)) (faulty Wrong.NoPlan line)
+
+-- the pass that stores: what a text that is not faulty says lies over the buffers
+pub record OnePass (text w v e : List ℕ) (r : ParseAnswer) (w′ v′ e′ : List ℕ) : Type 0 where
+  pub answer : parseSays r ≡ readingCounts (textOf text)
+  pub kept : (c : Content) → textOf text ≡ says c → (w′ ≡ over (c .words) w) × (v′ ≡ over (c .values) v) × (e′ ≡ over (c .errors) e)

@@ -1,19 +1,27 @@
 // The text from which a working file is made: one record a line, in the practice sheet's own notation.
-mod rules; // rules.rt: which record may follow which
+mod lines; // lines.rt: what a line adds, by the rules of the working file
 
 use entry::Record;
 use entry::Run;
 use entry::Wrong;
 use workfile::Contents;
+use workfile::FileRecord;
+use workfile::Plan;
+use workfile::Tally;
 ghost use mathlib.Core.Path.{_≡_};
-ghost use Prim.Native.Nat.{suc, _≤_, min};
+ghost use mathlib.Core.Bool.{false};
+ghost use Prim.Native.Nat.{suc, _≤_, _<_, min};
 ghost use lib.ListN.{length};
-ghost use Rattle.workfile.specs.Content.{mostFileLines};
 ghost use Rattle.workfile.specs.Promises.{Rooms};
-ghost use Rattle.notation.specs.Parse.{parseSays, ParsePost};
-ghost use Rattle.notation.specs.Steps.{Rule, Kept, endOf, Passed};
+ghost use Rattle.notation.specs.Contents.{emptyContent, stateOf, textOf};
+ghost use Rattle.notation.specs.Parse.{roomFor, parseSays, readingCounts, ParsePromise};
+ghost use Rattle.store.specs.Storing.{Put};
+ghost use Rattle.notation.specs.Steps.{turnOf, endOf, HasPlaceOf, filed, OnePass};
 
-// The number of a line of the text, from 1, and what is wrong there.
+// Lines of a text are numbered from 1.
+const FIRST_LINE: usize = 1;
+
+// The number of a line of the text and what is wrong there.
 pub struct Fault {
     pub line: usize,
     pub wrong: Wrong,
@@ -24,57 +32,23 @@ pub enum ParseAnswer {
     Faulty(Fault),
 }
 
-// What the rules ask of the records so far; `next` is the lowest line that an E may name.
+// What the lines so far say: whether P was among them, its plan, and the counts of the records after it.
 struct State {
-    plans: usize,
-    level: u8,
-    te: u64,
-    ae: u64,
-    words: usize,
-    lines: usize,
-    sum: u64,
-    next: usize,
+    planned: bool,
+    plan: Plan,
+    tally: Tally,
 }
 
-// A record judged: the state with it, or what is wrong.
-enum Judged {
-    Fits(State),
-    Breaks(Wrong),
+// A line by those before it: the state with it, or what is wrong.
+enum Taken {
+    With(State),
+    Not(Wrong),
 }
 
-// A record that the rules allow goes to its place, where the pass stores.
-fn keep(
-    storing: bool,
-    s: State,
-    found: Record,
-    words: &mut [u64],
-    values: &mut [u64],
-    errors: &mut [u64],
-)
-    requires { ⌜ Rooms (now words) (now values) (now errors) × (Rule s found × (s .lines ≤ mostFileLines)) ⌝ }
-    ensures { λ r. ⌜ Kept storing s found (now (words .entry)) (now (values .entry)) (now (errors .entry)) (now (words .exit)) (now (values .exit)) (now (errors .exit)) ⌝ }
-{
-    if !storing {
-        return;
-    }
-    match found {
-        Record::Word(word) => {
-            let at = s.words;
-            words[at] = word;
-        }
-        Record::Value(value) => {
-            let at = s.lines;
-            values[at] = value;
-            errors[at] = 0;
-        }
-        Record::Error(line, error) => {
-            let at = line as usize;
-            errors[at] = error;
-        }
-        Record::Nothing => {}
-        Record::Plan(_, _, _) => {}
-        Record::Unreadable(_) => {}
-    }
+// A line at a place of the text: its record, the state with it and where the next begins; or what is wrong.
+enum Turn {
+    On(Record, State, usize),
+    Stop(Wrong),
 }
 
 // Where the line after one that ends at `end` begins.
@@ -85,62 +59,80 @@ fn line_after(text: &[u8], end: usize) -> usize
     if end < text.len() { end + 1 } else { end }
 }
 
+// The line that begins at `at`.
+fn read_line(text: &[u8], at: usize, state: State) -> Turn
+    requires { ⌜ at < length (now text) ⌝ }
+    ensures { λ r. ⌜ r ≡ turnOf (now (text .entry)) at state ⌝ }
+{
+    let end = entry::fields::reach(text, at, Run::Line);
+    let found = entry::records::record_of(&text[at..end]);
+    match lines::take(state, found) {
+        Taken::Not(wrong) => Turn::Stop(wrong),
+        Taken::With(next) => Turn::On(found, next, line_after(text, end)),
+    }
+}
+
+// Before the first line.
+fn first_state() -> State
+    ensures { λ r. ⌜ r ≡ stateOf false emptyContent ⌝ }
+{
+    let plan = Plan {
+        level: 0,
+        te: 0,
+        ae: 0,
+    };
+    let tally = Tally {
+        words: 0,
+        lines: 0,
+        sum: 0,
+        next_line: 0,
+    };
+    State {
+        planned: false,
+        plan: plan,
+        tally: tally,
+    }
+}
+
 // The answer at the end of a text.
 fn answer_at_end(s: State, line: usize) -> ParseAnswer
     ensures { λ r. ⌜ parseSays r ≡ endOf s line ⌝ }
 {
-    if s.plans == 0 {
+    if !s.planned {
         return ParseAnswer::Faulty(Fault {
             line: line,
             wrong: Wrong::NoPlan,
         });
     }
+    let plan = s.plan;
+    let tally = s.tally;
     ParseAnswer::Parsed(Contents {
-        level: s.level,
-        te: s.te,
-        ae: s.ae,
-        words: s.words as u64,
-        lines: s.lines as u64,
+        level: plan.level,
+        te: plan.te,
+        ae: plan.ae,
+        words: tally.words as u64,
+        lines: tally.lines as u64,
     })
 }
 
-// One pass over the text, line by line; the buffers change only where it stores.
-fn pass(
-    text: &[u8],
-    storing: bool,
-    words: &mut [u64],
-    values: &mut [u64],
-    errors: &mut [u64],
-) -> ParseAnswer
-    requires { ⌜ Rooms (now words) (now values) (now errors) ⌝ }
-    ensures { λ r. ⌜ Passed (now (text .entry)) storing (now (words .entry)) (now (values .entry)) (now (errors .entry)) r (now (words .exit)) (now (values .exit)) (now (errors .exit)) ⌝ }
+// The first pass only judges.
+fn check(text: &[u8]) -> ParseAnswer
+    ensures { λ r. ⌜ parseSays r ≡ readingCounts (textOf (now (text .entry))) ⌝ }
 {
     let mut at: usize = 0;
-    let mut line: usize = 1;
-    let mut state = State {
-        plans: 0,
-        level: 0,
-        te: 0,
-        ae: 0,
-        words: 0,
-        lines: 0,
-        sum: 0,
-        next: 0,
-    };
+    let mut line: usize = FIRST_LINE;
+    let mut state = first_state();
     while at < text.len() {
-        let end = entry::fields::reach(text, at, Run::Line);
-        let found = entry::records::record_of(&text[at..end]);
-        match rules::judge(state, found) {
-            Judged::Breaks(wrong) => {
+        match read_line(text, at, state) {
+            Turn::Stop(wrong) => {
                 return ParseAnswer::Faulty(Fault {
                     line: line,
                     wrong: wrong,
                 });
             }
-            Judged::Fits(next) => {
-                keep(storing, state, found, words, values, errors);
+            Turn::On(_, next, to) => {
                 state = next;
-                at = line_after(text, end);
+                at = to;
                 line += 1;
             }
         }
@@ -148,30 +140,73 @@ fn pass(
     answer_at_end(state, line)
 }
 
-// The contents of a text, or its first fault; a faulty text changes nothing. The first pass only judges, the second stores.
-pub fn parse(text: &[u8], words: &mut [u64], values: &mut [u64], errors: &mut [u64]) -> ParseAnswer
-    ensures { λ r. ⌜ ParsePost (now (text .entry)) (now (words .entry)) (now (values .entry)) (now (errors .entry)) r (now (words .exit)) (now (values .exit)) (now (errors .exit)) ⌝ }
+// The record of a line, if it has one, goes to its place.
+fn keep(found: Record, tally: Tally, words: &mut [u64], values: &mut [u64], errors: &mut [u64])
+    requires { ⌜ HasPlaceOf found tally (now words) (now values) (now errors) ⌝ }
+    ensures { λ r. ⌜ Put tally (filed found) (now (words .entry)) (now (values .entry)) (now (errors .entry)) (now (words .exit)) (now (values .exit)) (now (errors .exit)) ⌝ }
 {
-    if words.len() < workfile::MOST_WORDS {
+    match found {
+        Record::Filed(record) => store::put_record(record, tally, words, values, errors),
+        Record::Nothing => {}
+        Record::Plan(_, _, _) => {}
+        Record::Unreadable(_) => {}
+    }
+}
+
+// The second pass stores. Its end is the Z that the counts imply: lines after the last E get error 0.
+fn fill(text: &[u8], words: &mut [u64], values: &mut [u64], errors: &mut [u64]) -> ParseAnswer
+    requires { ⌜ Rooms (now words) (now values) (now errors) ⌝ }
+    ensures { λ r. ⌜ OnePass (now (text .entry)) (now (words .entry)) (now (values .entry)) (now (errors .entry)) r (now (words .exit)) (now (values .exit)) (now (errors .exit)) ⌝ }
+{
+    let mut at: usize = 0;
+    let mut line: usize = FIRST_LINE;
+    let mut state = first_state();
+    while at < text.len() {
+        match read_line(text, at, state) {
+            Turn::Stop(wrong) => {
+                return ParseAnswer::Faulty(Fault {
+                    line: line,
+                    wrong: wrong,
+                });
+            }
+            Turn::On(found, next, to) => {
+                line += 1;
+                keep(found, state.tally, words, values, errors);
+                state = next;
+                at = to;
+            }
+        }
+    }
+    let tally = state.tally;
+    let end = FileRecord::End(tally.lines, tally.sum);
+    store::put_record(end, tally, words, values, errors);
+    answer_at_end(state, line)
+}
+
+fn has_room(words: usize, values: usize, errors: usize) -> bool
+    ensures { λ r. ⌜ r ≡ roomFor words values errors ⌝ }
+{
+    if words < workfile::MOST_WORDS {
+        return false;
+    }
+    if values < workfile::MOST_FILE_LINES {
+        return false;
+    }
+    errors >= workfile::MOST_FILE_LINES
+}
+
+// The contents of a text, or its first fault; a faulty text changes nothing.
+pub fn parse(text: &[u8], words: &mut [u64], values: &mut [u64], errors: &mut [u64]) -> ParseAnswer
+    ensures { λ r. ⌜ ParsePromise (now (text .entry)) (now (words .entry)) (now (values .entry)) (now (errors .entry)) r (now (words .exit)) (now (values .exit)) (now (errors .exit)) ⌝ }
+{
+    if !has_room(words.len(), values.len(), errors.len()) {
         return ParseAnswer::Faulty(Fault {
             line: 0,
             wrong: Wrong::NoRoom,
         });
     }
-    if values.len() < workfile::MOST_FILE_LINES {
-        return ParseAnswer::Faulty(Fault {
-            line: 0,
-            wrong: Wrong::NoRoom,
-        });
-    }
-    if errors.len() < workfile::MOST_FILE_LINES {
-        return ParseAnswer::Faulty(Fault {
-            line: 0,
-            wrong: Wrong::NoRoom,
-        });
-    }
-    match pass(text, false, words, values, errors) {
+    match check(text) {
         ParseAnswer::Faulty(fault) => ParseAnswer::Faulty(fault),
-        ParseAnswer::Parsed(_) => pass(text, true, words, values, errors),
+        ParseAnswer::Parsed(_) => fill(text, words, values, errors),
     }
 }

@@ -1,17 +1,18 @@
 -- Writing on a page: one text after another is one text, what a loop that writes has left to write, and that a text for which there is
 -- room stands at the start of the page. Assumes nothing.
-use Prim.Native.Nat.{ℕ, suc, _+_, _≤_, _<_}
+use Prim.Native.Nat.{ℕ, suc, _+_, _/_, _%_, _≤_, _<_}
 use mathlib.Core.Path.{_≡_, refl, sym, ap, _∙_}
 use mathlib.Core.Bool.{Bool, true, false}
 use lib.Dec.{ltb}
 use Rattle.terms.specs.Numbers.{pick}
-use Rattle.pen.specs.Text.{decimal, fields, line, more}
+use Rattle.pen.specs.Text.{digit, decimal, fields, line, more}
 use mathlib.Core.List.{List, [], _∷_, _++_, map, append-assoc}
 use native.Mathlib.Omega.{arith}
 use native.Mathlib.Numerals.{add-one}
 use borrow.Author.Tests.{lt-ltb}
 use lib.ListN.{length, getD, set, drop, length-set, length-append, drop-of-length-le}
 use lib.Seq.{sets, sets-eq, drop-cons, length-take-le}
+use Rattle.pen.proofs.Decimals.{decimal-small, decimal-more}
 use Rattle.pen.specs.Page.{Page, page, put, write, Wrote, Printed}
 
 pub write-append : (p : Page) (x y : List ℕ) → write p (x ++ y) ≡ write (write p x) y
@@ -85,19 +86,33 @@ unfolding write
 left-none {o} {o′} {a} {a′} {text} {rest} l e = record { same = ap (λ (y : List ℕ). write (page o′ a′) y) (sym e) ∙ l .same }
 
 -- the rests of the loops over bytes and over numbers
-pub bytes-more : (l : List ℕ) (i : ℕ) → i < length l → drop i l ≡ (getD l i 0 ∷ []) ++ drop (i + 1) l
+bytes-more : (l : List ℕ) (i : ℕ) → i < length l → drop i l ≡ (getD l i 0 ∷ []) ++ drop (i + 1) l
 bytes-more l i h = rw (add-one i) (drop-cons l i 0 h)
 
-pub bytes-none : (l : List ℕ) (i : ℕ) → length l ≤ i → drop i l ≡ []
+bytes-none : (l : List ℕ) (i : ℕ) → length l ≤ i → drop i l ≡ []
 bytes-none l i h = drop-of-length-le l h
 
-pub fields-more : (l : List ℕ) (i : ℕ) → i < length l → fields (drop i l) ≡ (32 ∷ decimal (getD l i 0)) ++ fields (drop (i + 1) l)
+fields-more : (l : List ℕ) (i : ℕ) → i < length l → fields (drop i l) ≡ (32 ∷ decimal (getD l i 0)) ++ fields (drop (i + 1) l)
 unfolding fields
 fields-more l i h = rw (add-one i, drop-cons l i 0 h) refl
 
-pub fields-none : (l : List ℕ) (i : ℕ) → length l ≤ i → fields (drop i l) ≡ []
+fields-none : (l : List ℕ) (i : ℕ) → length l ≤ i → fields (drop i l) ≡ []
 unfolding fields
 fields-none l i h = rw (drop-of-length-le l h) refl
+
+-- those loops: before a turn, one turn on, and at the end
+module _ {o o′ : List ℕ} {a a′ : ℕ} {text : List ℕ} (l : List ℕ) (i : ℕ) where
+  pub byte-laid : {o″ : List ℕ} {a″ : ℕ} → Left o a text o′ a′ (drop i l) → i < length l → Wrote o′ a′ (getD l i 0 ∷ []) o″ a″ → Left o a text o″ a″ (drop (i + 1) l)
+  byte-laid left h w = left-more left (bytes-more l i h) w
+
+  pub bytes-laid : Left o a text o′ a′ (drop i l) → length l ≤ i → Wrote o a text o′ a′
+  bytes-laid left h = left-none left (bytes-none l i h)
+
+  pub field-laid : {o″ : List ℕ} {a″ : ℕ} → Left o a text o′ a′ (fields (drop i l)) → i < length l → Wrote o′ a′ (32 ∷ decimal (getD l i 0)) o″ a″ → Left o a text o″ a″ (fields (drop (i + 1) l))
+  field-laid left h w = left-more left (fields-more l i h) w
+
+  pub fields-laid : Left o a text o′ a′ (fields (drop i l)) → length l ≤ i → Wrote o a text o′ a′
+  fields-laid left h = left-none left (fields-none l i h)
 
 pub line-parts : (w : List ℕ) (ns : List ℕ) → line (w ∷ map decimal ns) ≡ w ++ (fields ns ++ (10 ∷ []))
 unfolding fields
@@ -110,6 +125,20 @@ line-parts w ns = ap (λ (l : List ℕ). w ++ l) (go ns)
 -- the same text, otherwise said
 pub as-text : {o o′ : List ℕ} {a a′ : ℕ} {x y : List ℕ} → y ≡ x → Wrote o a x o′ a′ → Wrote o a y o′ a′
 as-text {o} {o′} {a} {a′} e w = rw e w
+
+-- the parts of the pen's own texts
+pub after-space : {o o′ o″ : List ℕ} {a a′ a″ : ℕ} {x : List ℕ} → Wrote o a (32 ∷ []) o′ a′ → Wrote o′ a′ x o″ a″ → Wrote o a (32 ∷ x) o″ a″
+after-space u v = u ⨾ v
+
+pub line-laid : (ns : List ℕ) {o o₁ o₂ o₃ w : List ℕ} {a a₁ a₂ a₃ : ℕ} → Wrote o a w o₁ a₁ → Wrote o₁ a₁ (fields ns) o₂ a₂ → Wrote o₂ a₂ (10 ∷ []) o₃ a₃
+    → Wrote o a (line (w ∷ map decimal ns)) o₃ a₃
+line-laid ns {w = w} opened filled ended = as-text (line-parts w ns) (opened ⨾ filled ⨾ ended)
+
+pub small-laid : (n : ℕ) {o o′ : List ℕ} {a a′ : ℕ} → n < 10 → Wrote o a (digit n ∷ []) o′ a′ → Wrote o a (decimal n) o′ a′
+small-laid n h w = as-text (decimal-small n h) w
+
+pub more-laid : (n : ℕ) {o o₁ o₂ : List ℕ} {a a₁ a₂ : ℕ} → 10 ≤ n → Wrote o a (decimal (n / 10)) o₁ a₁ → Wrote o₁ a₁ (digit (n % 10) ∷ []) o₂ a₂ → Wrote o a (decimal n) o₂ a₂
+more-laid n h front last = as-text (decimal-more n h) (front ⨾ last)
 
 -- with enough room, from the start of the page
 pub printed : (text old : List ℕ) (r : ℕ) (new : List ℕ) → length text ≤ length old → Wrote old 0 text new r → Printed text old r new

@@ -1,4 +1,4 @@
--- A quoted text as its ASCII bytes. These are definitions: nothing is assumed.
+-- A quoted text as its ASCII bytes. Definitions: nothing is assumed.
 use Prim.Native.Nat.{ℕ}
 use Prim.Native.Char.{code}
 use Prim.Native.String.{String, [], _∷_}

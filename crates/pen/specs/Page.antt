@@ -1,5 +1,4 @@
--- Writing on a page: bytes go to the place of the pen, one after the other; at the end of the page the pen stops.
--- These are definitions: nothing is assumed.
+-- Writing on a page: bytes go to the place of the pen, one after the other; at the end of the page the pen stops. Definitions: nothing is assumed.
 use Prim.Native.Nat.{ℕ, _+_, _≤_}
 use mathlib.Core.Path.{_≡_}
 use mathlib.Core.List.{List, [], _∷_, _++_}

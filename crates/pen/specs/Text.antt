@@ -1,4 +1,4 @@
--- Texts as bytes: a number in decimal, a line of words. These are definitions: nothing is assumed.
+-- Texts as bytes: a number in decimal, a line of words. Definitions: nothing is assumed.
 use Prim.Native.Nat.{ℕ, zero, suc, _+_, _/_, _%_}
 use mathlib.Core.List.{List, [], _∷_, _++_}
 use lib.Dec.{ltb}

@@ -1,71 +1,62 @@
-// A line of the output: a case's name, what is expected, and what was found.
+// A line of the output: what a line of standard input says of a case, its name and what is expected; then what was found.
+use answers::Answer;
 use pen::Pen;
 
-// The name and what is expected; what was found follows.
-pub fn open(page: &mut [u8], name: &[u8], expected: &[u8]) -> Pen {
-    let start = Pen { at: 0 };
-    let named = start.text(page, name);
-    let expecting = named.text(page, b": expected");
-    let told = expecting.text(page, expected);
+// The next byte of standard input; at its end, the end of a line.
+fn next_byte() -> u8 {
+    let mut byte = [10u8; 1];
+    io::read_full(0, &mut byte);
+    byte[0]
+}
+
+// The next line of standard input, without its end.
+fn put_line(page: &mut [u8]) -> Pen {
+    let mut pen = Pen { at: 0 };
+    let mut byte = next_byte();
+    let mut i: usize = 0;
+    while i < page.len() && byte != 10 {
+        pen = pen.byte(page, byte);
+        byte = next_byte();
+        i += 1;
+    }
+    pen
+}
+
+fn open(page: &mut [u8]) -> Pen {
+    let told = put_line(page);
     told.text(page, b", found")
 }
 
-// The end of the line; the line is written.
-pub fn close(pen: Pen, page: &mut [u8]) {
-    let ended = pen.byte(page, 10);
-    let length = ended.at;
-    if length <= page.len() {
-        io::write_all(1, &page[..length]);
-    }
-}
-
-// A case that finds an answer: its figures or its refusal.
-pub fn answer(name: &[u8], expected: &[u8], refusal: u64, place: u64, figures: &[u64]) {
-    judgement(name, expected, refusal, place, figures, 0);
-}
-
-// The same with the number of a verdict, 0 for none.
-pub fn judgement(
-    name: &[u8],
-    expected: &[u8],
-    refusal: u64,
-    place: u64,
-    figures: &[u64],
-    verdict: u64,
-) {
+// A case that finds an answer.
+pub fn found(answer: Answer) {
     let mut page = [0u8; 200];
-    let opened = open(&mut page, name, expected);
-    let told = answers::put_answer(opened, &mut page, refusal, place, figures);
-    let judged = answers::put_verdict(told, &mut page, verdict);
-    close(judged, &mut page);
+    let opened = open(&mut page);
+    let told = answers::put(opened, &mut page, answer);
+    answers::write_line(&mut page, told);
 }
 
 // A case that finds a number.
-pub fn number(name: &[u8], expected: &[u8], found: u64) {
+pub fn number(found: u64) {
     let mut page = [0u8; 200];
-    let opened = open(&mut page, name, expected);
+    let opened = open(&mut page);
     let told = opened.field(&mut page, found);
-    close(told, &mut page);
+    answers::write_line(&mut page, told);
 }
 
-// A case that finds marks, which are given as bytes.
-pub fn marks(name: &[u8], expected: &[u8], found: &[u8]) {
-    let mut page = [0u8; 200];
-    let opened = open(&mut page, name, expected);
-    let told = put_marks(opened, &mut page, found);
-    close(told, &mut page);
-}
-
-fn wide(mark: u8) -> u64 {
-    mark as u64
-}
-
-fn put_marks(pen: Pen, page: &mut [u8], found: &[u8]) -> Pen {
+fn put_marks(pen: Pen, page: &mut [u8], marks: &[u8]) -> Pen {
     let mut told = pen;
     let mut i: usize = 0;
-    while i < found.len() {
-        told = told.field(page, wide(found[i]));
+    while i < marks.len() {
+        told = told.field(page, terms::widen(marks[i]));
         i += 1;
     }
     told
+}
+
+// A case that finds marks.
+pub fn marks(found: &[u8]) {
+    let mut page = [0u8; 200];
+    let opened = open(&mut page);
+    let told = put_marks(opened, &mut page, found);
+    answers::write_line(&mut page, told);
 }

@@ -1,13 +1,14 @@
 // What is counted and added over all starts of a ledger.
-use draw::DrawAnswer;
-use project::ProjectAnswer;
 
 // 1 where a start draws one line of five, and that is line 3.
 fn draws_line_3(ledger: &[u64; 5], n: u64, start: u64) -> u64 {
     let mut marks = [9u8; 5];
-    match draw::draw(ledger, n, start, &mut marks) {
-        DrawAnswer::Refused(_) => 0,
-        DrawAnswer::Drawn(lines) => { if marks[3] == 1 && lines == 1 { 1 } else { 0 } }
+    let answer = calls::draw(ledger, n, start, &mut marks);
+    let figures = answer.figures;
+    if marks[3] == 1 && figures[0] == 1 {
+        1
+    } else {
+        0
     }
 }
 
@@ -39,17 +40,16 @@ fn entered(mark: u8, error: u64) -> u64 {
 // The projection at a start, with the true errors entered for the lines drawn and 0 elsewhere.
 fn projected(ledger: &[u64; 4], n: u64, start: u64, errors: &[u64; 4]) -> u64 {
     let mut marks = [0u8; 4];
-    draw::draw(ledger, n, start, &mut marks);
+    calls::draw(ledger, n, start, &mut marks);
     let found = [
         entered(marks[0], errors[0]),
         entered(marks[1], errors[1]),
         entered(marks[2], errors[2]),
         entered(marks[3], errors[3]),
     ];
-    match project::project(ledger, n, start, &found) {
-        ProjectAnswer::Projected(sums) => add(sums.full, sums.sampled),
-        ProjectAnswer::Refused(_) => 0,
-    }
+    let answer = calls::project(ledger, n, start, &found);
+    let figures = answer.figures;
+    add(figures[0], figures[1])
 }
 
 // The projections of all starts below an interval, added.

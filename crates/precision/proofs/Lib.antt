@@ -1,6 +1,4 @@
--- The laws of sorting and of the signed sum, and what the proofs of the functions share.
-pub mod Insert
-pub mod Sorted
+-- The laws of the signed sum, and what the proofs of the functions share.
 pub mod Sums
 pub mod Rounded
 pub mod Worked

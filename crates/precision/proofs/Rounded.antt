@@ -1,18 +1,22 @@
 -- The precision in naturals: never negative, at any level; 0 where there is no interval; and what the function meets on its way.
 -- Assumes nothing.
-use mathlib.Core.Path.{_≡_, refl, sym, ap, _∙_}
+use mathlib.Core.Path.{_≡_, sym, ap, _∙_, subst⁻¹}
 use mathlib.Core.List.{List}
 use Prim.Native.Nat.{ℕ, _+_, _*_, _/_, _^_, _≤_, _<_}
 use native.Mathlib.Omega.{arith}
 use lib.ListN.{length}
+use lib.Dec.{T}
 use lib.IntN.{ℤ, pos, natAbs}
-use Rattle.terms.specs.Limits.{mostTotal}
+use lib.Signed.{mag, nonNeg}
+use mir.Syntax.{w64}
+use mir.Val.{toZ, ofZ}
 use Rattle.terms.specs.Numbers.{AllUpTo}
+use Rattle.terms.proofs.Differences.{back}
 use Rattle.factors.specs.declared.Level.{Level}
-use Rattle.precision.specs.Sorting.{sortDown, Falls}
-use Rattle.precision.specs.Precision.{hundredths, roundUp, precisionOf}
-use Rattle.precision.proofs.Sorted.{length-sort, sort-falls}
-use Rattle.precision.proofs.Sums.{Fallen, Weighing, byParts, in-naturals, by-parts-most, sum-small}
+use Rattle.sorting.specs.Sorting.{sortDown}
+use Rattle.precision.specs.Precision.{hundredths, roundUp, precisionOf, Weighable, Falling, PrecisionPromise}
+use Rattle.sorting.proofs.Sorted.{length-sort, sort-falls}
+use Rattle.precision.proofs.Sums.{Fallen, byParts, in-naturals, by-parts-most, sum-small}
 
 -- the amounts of a judgement in the order in which they came: fewer than 64, none above J
 module _ (l : Level) (J : ℕ) (amounts : List ℕ) (few : length amounts < 64) (all : AllUpTo J amounts) where
@@ -43,28 +47,38 @@ no-interval l amounts few all =
     let none : (natural l 0 amounts few all + 99) / 100 ≡ 0 = omega (arith, by-parts-most (fallen l 0 amounts few all) (length amounts) (omega (arith, length-sort amounts))) in
     in-hundreds l 0 amounts few all ∙ ap pos none
 
--- what is known where the amounts have been sorted
+-- what is known where amounts have been sorted
 pub record AtSorted (l : Level) (J : ℕ) (amounts sorted : List ℕ) : Type 0 where
-  pub small : J ≤ mostTotal
-  pub few : length amounts < 64
-  pub all : AllUpTo J amounts
+  pub fit : Weighable J amounts
   pub order : sorted ≡ sortDown amounts
 
 module _ {l : Level} {J : ℕ} {amounts sorted : List ℕ} (at : AtSorted l J amounts sorted) where
   same-length : length sorted ≡ length amounts
   same-length = ap length (at .order) ∙ length-sort amounts
 
-  pub weigh-ready : (J ≤ mostTotal) × (length sorted < 64) × Falls J sorted
-  weigh-ready = let few = at .few in (at .small, omega (arith, same-length), rw (at .order) (sort-falls J amounts (at .all)))
+  pub weigh-ready : Falling J sorted
+  weigh-ready = let few = at .fit .few in record { small = at .fit .small; few = omega (arith, same-length); fall = rw (at .order) (sort-falls J amounts (at .fit .each)) }
 
-  abbrev pub whole : ℕ
-  whole = natural l J amounts (at .few) (at .all)
+  -- the sum that is weighed, read back from its bits
+  abbrev whole : ℕ
+  whole = natural l J amounts (at .fit .few) (at .fit .each)
 
-  pub whole-is : hundredths l J sorted (length sorted) ≡ pos whole
-  whole-is = (λ i. hundredths l J (at .order i) (same-length i)) ∙ natural-is l J amounts (at .few) (at .all)
+  module _ {sum : ℤ} (fits : mag sum < 2 ^ 63) (weighed : sum ≡ hundredths l J sorted (length sorted)) where
+    abbrev read : ℤ
+    read = toZ w64 (ofZ w64 sum)
 
-  pub whole-small : whole < 2 ^ 62
-  whole-small = sum-small (record { small = at .small; fallen = fallen l J amounts (at .few) (at .all) }) (length amounts) (omega (arith, length-sort amounts))
+    is-whole : read ≡ pos whole
+    is-whole = back _ _ fits (weighed ∙ (λ i. hundredths l J (at .order i) (same-length i)) ∙ natural-is l J amounts (at .fit .few) (at .fit .each))
 
-  pub rounded : pos ((whole + 99) / 100) ≡ precisionOf l J amounts
-  rounded = sym (in-hundreds l J amounts (at .few) (at .all))
+    pub read-small : natAbs read < 2 ^ 62
+    read-small =
+        let most : whole < 2 ^ 62 =
+        sum-small l (record { small = at .fit .small; few = omega (arith, at .fit .few, length-sort amounts); fall = sort-falls J amounts (at .fit .each) }) (length amounts) (omega (arith, length-sort amounts)) in
+        omega (arith, ap natAbs is-whole)
+
+    pub read-positive : T (nonNeg read)
+    read-positive = subst⁻¹ (λ (z : ℤ). T (nonNeg z)) is-whole tt
+
+    pub rounded : PrecisionPromise l J amounts ((natAbs read + 99) / 100) sorted
+    rounded =
+        record { answer = ap (λ (n : ℕ). pos ((n + 99) / 100)) (ap natAbs is-whole) ∙ sym (in-hundreds l J amounts (at .fit .few) (at .fit .each)); amounts-left = at .order }

@@ -3,23 +3,25 @@
 -- where nothing is negative, since RF(k) is at least 100 × k and the amounts fall. Assumes nothing.
 use mathlib.Core.Path.{_≡_, refl, sym, ap, _∙_}
 use mathlib.Core.List.{List, [], _∷_}
-use Prim.Native.Nat.{ℕ, zero, suc, _+_, _*_, _-_, _^_, _≤_, _<_}
+use Prim.Native.Nat.{ℕ, zero, suc, _+_, _*_, _-_, _^_, _≤_, _<_, zero-le}
 use native.Mathlib.Numerals.{add-one}
 use native.Mathlib.Omega.{arith}
-use native.Mathlib.Nat.{add-zero, zero-add, mul-comm, mul-add, add-mul, mul-le-mul, mul-le-mul-right, lt-of-le-of-lt, le-trans, not-suc-le-zero, le-of-suc-le-suc}
-use lib.Dec.{lit<}
+use native.Mathlib.Nat.{add-zero, zero-add, mul-comm, mul-add, add-mul, mul-le-mul, mul-le-mul-right, lt-of-le-of-lt, lt-of-lt-of-le, le-trans, not-suc-le-zero, le-of-suc-le-suc}
+use lib.Dec.{lit<, lit≤}
 use lib.ListN.{length, getD}
 use lib.IntN.{ℤ, pos, subℕ, _+ℤ_, _*ℤ_}
 use mir.Syntax.{w64}
-use mir.Val.{SFits}
+use lib.Signed.{mag}
+use mir.Val.{Fits, SFits, toZ, ofZ}
+use mir.ValLaws.{toZ-pos}
 use Rattle.terms.specs.Limits.{mostTotal}
-use Rattle.terms.proofs.Differences.{sub-ge, minus, sub-add, sub-mul, mag-sub}
+use Rattle.terms.proofs.Differences.{back, sub-ge, minus, sub-add, sub-mul, mag-sub}
 use Rattle.factors.specs.declared.Level.{Level}
-use Rattle.factors.specs.Factors.{rf, stepOf}
+use Rattle.factors.specs.Factors.{rf, stepOf, Reliability}
 use Rattle.factors.proofs.Shape.{rf-hundreds, rf-top}
 use Rattle.factors.proofs.Steps.{step-is, step-small}
-use Rattle.precision.specs.Sorting.{Falls}
-use Rattle.precision.specs.Precision.{hundredths}
+use Rattle.sorting.specs.Sorting.{Falls}
+use Rattle.precision.specs.Precision.{hundredths, Falling, OneFits}
 
 -- one more product, added to a natural
 adds : (l : Level) (i p a q : ℕ) → suc i < 64 → q + (rf l i + 100) * a ≡ p + rf l (suc i) * a → pos p +ℤ stepOf l (suc i) *ℤ pos a ≡ pos q
@@ -71,6 +73,11 @@ pub record Fallen (l : Level) (J : ℕ) (s : List ℕ) : Type 0 where
   pub few : length s < 64
   pub fall : Falls J s
 
+-- where `weigh` stands: the sum after i turns is the definition's after i amounts
+pub record Weighed (l : Level) (J : ℕ) (s : List ℕ) (sum i : ℕ) : Type 0 where
+  pub inside : i ≤ length s
+  pub value : toZ w64 sum ≡ hundredths l J s i
+
 module _ {l : Level} {J : ℕ} {s : List ℕ} (at : Fallen l J s) where
   next-part : (k : ℕ) → k < length s → byParts l J s (suc k) + (rf l k + 100) * getD s k 0 ≡ byParts l J s k + rf l (suc k) * getD s k 0
   unfolding byParts settled
@@ -108,34 +115,59 @@ module _ {l : Level} {J : ℕ} {s : List ℕ} (at : Fallen l J s) where
       let hi : gap l k ≤ 2107 = omega (arith, rf-hundreds l k (omega arith) .1) in
       omega (arith, settled-most k h, mul-le-mul-right (former J s k) hi)
 
--- what fits 64 bits with a sign, where J is at most 10^15
-pub record Weighing (l : Level) (J : ℕ) (s : List ℕ) : Type 0 where
-  pub small : J ≤ mostTotal
-  pub fallen : Fallen l J s
+fallen : (l : Level) {J : ℕ} {s : List ℕ} → Falling J s → Fallen l J s
+fallen l f = record { few = f .few; fall = f .fall }
 
-module _ {l : Level} {J : ℕ} {s : List ℕ} (at : Weighing l J s) where
-  pub first-fits : {f : ℕ} → f ≡ rf l 0 → J * f < 2 ^ 63
-  first-fits {f} e = lt-of-le-of-lt (mul-le-mul {n₁ = J} {m₁ = f} {n₂ = mostTotal} {m₂ = 8407} (at .small) (omega (arith, rf-top l 0))) (lit< tt)
+pub sum-small : (l : Level) {J : ℕ} {s : List ℕ} → Falling J s → (k : ℕ) → k ≤ length s → byParts l J s k < 2 ^ 62
+sum-small l {J} {s} f k h = let small = f .small in omega (arith, by-parts-most (fallen l f) k h)
 
-  pub amount-fits : (i : ℕ) → i < length s → getD s i 0 ≤ mostTotal
-  amount-fits i h = le-trans (falls-up-to J s (at .fallen .fall) i h) (at .small)
+-- J times a factor fits with a sign, and J × RF(0) is the first sum, as `weigh` makes it
+module _ (l : Level) (J k f : ℕ) (s : List ℕ) (falling : Falling J s) (factor : Reliability l k f) where
+  below : J * f < 2 ^ 63
+  below = lt-of-le-of-lt (mul-le-mul {n₁ = J} {m₁ = f} {n₂ = mostTotal} {m₂ = 8407} (falling .small) (omega (arith, factor .value, rf-top l k))) (lit< tt)
 
-  pub product-fits : (i : ℕ) (z : ℤ) → i < length s → z ≡ stepOf l (i + 1) → SFits w64 (z *ℤ pos (getD s i 0))
-  product-fits i z h e =
-      let a = getD s i 0 in
-      let step = step-small l (i + 1) in
-      let two : 2 ≤ 2 = omega arith in
-      rw (e, step .from, sub-mul (step .above) 2 a)
-      (record { sfits = mag-sub (step .above * a) (2 * a) (lt-of-le-of-lt (mul-le-mul (step .most) (amount-fits i h)) (lit< tt)) (lt-of-le-of-lt (mul-le-mul two (amount-fits i h)) (lit< tt)) })
+  pub first-fits : Fits w64 (J * f)
+  first-fits = record { fits = lt-of-lt-of-le below (lit≤ tt) }
 
-  pub sum-small : (k : ℕ) → k ≤ length s → byParts l J s k < 2 ^ 62
-  sum-small k h = let n = at .small in omega (arith, by-parts-most (at .fallen) k h)
+  pub first-casts : SFits w64 (pos (J * f))
+  first-casts = record { sfits = below }
 
-  -- the definition's own next sum, with the index as code has it
-  pub next-sum : (i : ℕ) (sum z : ℤ) → sum ≡ hundredths l J s i → z ≡ stepOf l (i + 1) → sum +ℤ z *ℤ pos (getD s i 0) ≡ hundredths l J s (i + 1)
+pub weigh-begin : (l : Level) (J f : ℕ) (s : List ℕ) → Falling J s → Reliability l 0 f → Weighed l J s (J * f) 0
+unfolding hundredths
+weigh-begin l J f s falling first = record { inside = zero-le; value = toZ-pos w64 (J * f) (below l J 0 f s falling first) ∙ ap (λ (r : ℕ). pos (J * r)) (first .value) }
+
+-- one amount more
+module _ (l : Level) (J : ℕ) (s : List ℕ) (sum i : ℕ) (step : ℤ) (falling : Falling J s) (at : Weighed l J s sum i) (more : i < length s) (fits : mag step < 2 ^ 63) (is-step : step ≡ stepOf l (i + 1)) where
+  read : toZ w64 (ofZ w64 step) ≡ stepOf l (i + 1)
+  read = back _ _ fits is-step
+
+  small-amount : getD s i 0 ≤ mostTotal
+  small-amount = le-trans (falls-up-to J s (falling .fall) i more) (falling .small)
+
+  next-sum : toZ w64 sum +ℤ toZ w64 (ofZ w64 step) *ℤ pos (getD s i 0) ≡ hundredths l J s (i + 1)
   unfolding hundredths
-  next-sum i sum z e f = rw (e, f, add-one)
+  next-sum = rw (at .value, read, add-one)
 
-  pub next-fits : (i : ℕ) (sum z : ℤ) → i < length s → sum ≡ hundredths l J s i → z ≡ stepOf l (i + 1) → SFits w64 (sum +ℤ z *ℤ pos (getD s i 0))
-  next-fits i sum z h e f =
-      rw (next-sum i sum z e f, in-naturals (at .fallen) (i + 1) (omega arith)) (record { sfits = omega (arith, sum-small (i + 1) (omega arith)) })
+  product-fits : SFits w64 (toZ w64 (ofZ w64 step) *ℤ pos (getD s i 0))
+  product-fits =
+      let a = getD s i 0 in
+      let small = step-small l (i + 1) in
+      let two : 2 ≤ 2 = omega arith in
+      rw (read, small .from, sub-mul (small .above) 2 a)
+      (record { sfits = mag-sub (small .above * a) (2 * a) (lt-of-le-of-lt (mul-le-mul (small .most) small-amount) (lit< tt)) (lt-of-le-of-lt (mul-le-mul two small-amount) (lit< tt)) })
+
+  pub one-fits : OneFits (toZ w64 sum) (toZ w64 (ofZ w64 step)) (getD s i 0)
+  one-fits =
+      record {
+        small = small-amount;
+        product = product-fits;
+        added = rw (next-sum, in-naturals (fallen l falling) (i + 1) (omega arith)) (record { sfits = omega (arith, sum-small l falling (i + 1) (omega arith)) });
+      }
+
+  pub weigh-turn : (r : ℤ) → mag r < 2 ^ 63 → r ≡ toZ w64 sum +ℤ toZ w64 (ofZ w64 step) *ℤ pos (getD s i 0) → Weighed l J s (ofZ w64 r) (i + 1)
+  weigh-turn r small e = record { inside = omega arith; value = back _ _ small (e ∙ next-sum) }
+
+pub weigh-end : (l : Level) (J : ℕ) (s : List ℕ) (sum i : ℕ) → Weighed l J s sum i → length s ≤ i → toZ w64 sum ≡ hundredths l J s (length s)
+weigh-end l J s sum i at h =
+    let all : i ≡ length s = omega (arith, at .inside) in
+    rw all at (at .value)

@@ -1,11 +1,11 @@
 -- The practice sheet's precisions, and the order in which amounts come, by computation. Assumes nothing.
 use mathlib.Core.Path.{_≡_, refl}
-use mathlib.Core.List.{List, [], _∷_}
+use mathlib.Core.List.{[], _∷_}
 use lib.IntN.{pos}
 use Rattle.factors.specs.declared.Level.the-variants.{P90, P50}
 use Rattle.factors.specs.Factors.{rf, stepOf}
 use Rattle.factors.specs.Table.{table}
-use Rattle.precision.specs.Sorting.{insertDown, sortOnto, sortDown}
+use Rattle.sorting.specs.Sorting.{sortDown}
 use Rattle.precision.specs.Precision.{hundredths, roundUp, precisionOf}
 
 pub worked : (precisionOf P90 40 (10 ∷ 10 ∷ 10 ∷ []) ≡ pos 107) × (precisionOf P50 40 (10 ∷ 10 ∷ 10 ∷ []) ≡ pos 28)

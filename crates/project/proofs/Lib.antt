@@ -1,9 +1,10 @@
 -- What the proofs of several functions use, and what callers cite.
-pub mod Walk
+pub mod Lines
 pub mod Amounts
-pub mod Passing
 pub mod Checking
-pub mod Keeping
+pub mod Facts
+pub mod Adding
+pub mod Kept
 pub mod Gathering
 pub mod Laws
 pub mod Worked

@@ -4,11 +4,11 @@ use mathlib.Core.List.{List, [], _∷_}
 use Prim.Native.Nat.{ℕ}
 use Rattle.terms.specs.Numbers.{divUp}
 use Rattle.terms.specs.Outcome.{accepted, refused}
-use Rattle.ledger.specs.Ledger as ledger
+use Rattle.ledger.specs.Ledger.{runningFrom, runningTotal, ledgerOf}
 use Rattle.split.specs.Rounds.{rounds}
 use Rattle.split.specs.Split.{splitOf, figuresFrom}
 use Rattle.draw.specs.Points.{points, covers}
-use Rattle.draw.specs.Draw.{figuresFor}
+use Rattle.split.specs.Start.{figuresFor}
 use Rattle.project.specs.Lines.{amount, linesFrom, linesOf, total, amountsOf}
 use Rattle.project.specs.Project.{checkedLine, checkedFrom, checkedLines, projectionAt, projectOf}
 
@@ -20,26 +20,26 @@ found = 7 ∷ 0 ∷ 10 ∷ 5 ∷ []
 
 -- start 25: three amounts of 10
 pub at-25 : (projectOf claims 3 25 found ≡ accepted (record { full = 0; sampled = 30; m = 3 })) × (amountsOf (linesOf 40 25 claims found) ≡ 10 ∷ 10 ∷ 10 ∷ [])
-unfolding projectOf figuresFor splitOf figuresFrom ledger.ledgerOf ledger.linesOf ledger.linesFrom rounds projectionAt checkedLines checkedFrom checkedLine linesOf linesFrom total amountsOf amount covers points divUp
+unfolding projectOf figuresFor splitOf figuresFrom ledgerOf runningTotal runningFrom rounds projectionAt checkedLines checkedFrom checkedLine linesOf linesFrom total amountsOf amount covers points divUp
 at-25 = (refl, refl)
 
 -- all four entered at start 0, where line 3 is not drawn
 pub all-entered : projectOf claims 3 0 found ≡ refused 15 3
-unfolding projectOf figuresFor splitOf figuresFrom ledger.ledgerOf ledger.linesOf ledger.linesFrom rounds projectionAt checkedLines checkedFrom checkedLine linesOf linesFrom amount covers points divUp
+unfolding projectOf figuresFor splitOf figuresFrom ledgerOf runningTotal runningFrom rounds projectionAt checkedLines checkedFrom checkedLine linesOf linesFrom amount covers points divUp
 all-entered = refl
 
 -- 14 first on a line, and the first line first
 pub in-order : (projectOf claims 3 0 (7 ∷ 0 ∷ 10 ∷ 21 ∷ []) ≡ refused 14 3) × (projectOf claims 3 30 (7 ∷ 31 ∷ 0 ∷ 0 ∷ []) ≡ refused 15 0)
     × (projectOf claims 3 40 (31 ∷ 0 ∷ 0 ∷ 0 ∷ []) ≡ refused 11 0) × (projectOf claims 3 40 (31 ∷ []) ≡ refused 13 0)
-unfolding projectOf figuresFor splitOf figuresFrom ledger.ledgerOf ledger.linesOf ledger.linesFrom rounds projectionAt checkedLines checkedFrom checkedLine linesOf linesFrom amount covers points divUp
+unfolding projectOf figuresFor splitOf figuresFrom ledgerOf runningTotal runningFrom rounds projectionAt checkedLines checkedFrom checkedLine linesOf linesFrom amount covers points divUp
 in-order = (refl, refl, refl, refl)
 
 -- a full line counts with its error, and no interval leaves nothing to draw
 pub no-interval : projectOf (10 ∷ []) 2 0 (4 ∷ []) ≡ accepted (record { full = 4; sampled = 0; m = 0 })
-unfolding projectOf figuresFor splitOf figuresFrom ledger.ledgerOf ledger.linesOf ledger.linesFrom rounds projectionAt checkedLines checkedFrom checkedLine linesOf linesFrom total amount covers points divUp
+unfolding projectOf figuresFor splitOf figuresFrom ledgerOf runningTotal runningFrom rounds projectionAt checkedLines checkedFrom checkedLine linesOf linesFrom total amount covers points divUp
 no-interval = refl
 
 -- the final interval, 80, is used and not the first, 250
 pub final-interval : projectOf (500 ∷ 120 ∷ 0 ∷ 80 ∷ 300 ∷ []) 4 79 (1 ∷ 0 ∷ 0 ∷ 7 ∷ 2 ∷ []) ≡ accepted (record { full = 3; sampled = 7; m = 1 })
-unfolding projectOf figuresFor splitOf figuresFrom ledger.ledgerOf ledger.linesOf ledger.linesFrom rounds projectionAt checkedLines checkedFrom checkedLine linesOf linesFrom total amount covers points divUp
+unfolding projectOf figuresFor splitOf figuresFrom ledgerOf runningTotal runningFrom rounds projectionAt checkedLines checkedFrom checkedLine linesOf linesFrom total amount covers points divUp
 final-interval = refl

@@ -1,5 +1,5 @@
--- Step 5, the projection: its answer for every ledger, number of draws, start and errors. These are definitions: nothing is assumed.
-use Prim.Native.Nat.{ℕ, suc, _≤_}
+-- Step 5, the projection: its answer for every ledger, number of draws, start and errors. Definitions: nothing is assumed.
+use Prim.Native.Nat.{ℕ, suc, _+_, _≤_}
 use mathlib.Core.Path.{_≡_}
 use mathlib.Core.Bool.{Bool, false}
 use mathlib.Core.List.{List, [], _∷_}
@@ -9,31 +9,24 @@ use Rattle.terms.specs.Outcome.{Outcome, accepted, refused, refusedBy, after}
 use Rattle.terms.specs.Numbers.{pick, sum}
 use Rattle.terms.specs.Limits.{mostLines, mostTotal, mostInterval}
 use Rattle.split.specs.declared.Figures.{Figures}
-use Rattle.draw.specs.Draw.{figuresFor}
-use Rattle.project.specs.declared.State.{State}
-use Rattle.project.specs.declared.State.the-variants.{NotDrawn, Drawn, Full}
-use Rattle.project.specs.declared.Line.{Line}
-use Rattle.project.specs.declared.LineAnswer.{LineAnswer}
-use Rattle.project.specs.declared.LineAnswer.the-variants as line
-use Rattle.project.specs.declared.Projection.{Projection}
-use Rattle.project.specs.declared.ProjectAnswer.{ProjectAnswer}
-use Rattle.project.specs.declared.ProjectAnswer.the-variants.{Projected, Refused}
+use Rattle.split.specs.Start.{figuresFor}
+use Rattle.project.specs.declared.{State.State, Line.Line, LineAnswer.LineAnswer, Projection.Projection, ProjectAnswer.ProjectAnswer}
 use Rattle.project.specs.Lines.{linesOf, projectionOf}
 
 -- what the answers say
 abbrev pub lineSays : LineAnswer → Outcome Line
-lineSays (line.Known known) = accepted known
-lineSays (line.Refused why) = refusedBy why
+lineSays (LineAnswer.Known known) = accepted known
+lineSays (LineAnswer.Refused why) = refusedBy why
 
 abbrev pub projectSays : ProjectAnswer → Outcome Projection
-projectSays (Projected projection) = accepted projection
-projectSays (Refused why) = refusedBy why
+projectSays (ProjectAnswer.Projected projection) = accepted projection
+projectSays (ProjectAnswer.Refused why) = refusedBy why
 
 -- an error above 0 on a line that is not drawn and not full
 abbrev pub misplaced : State → ℕ → Bool
-misplaced NotDrawn error = ltb 0 error
-misplaced (Drawn projected) error = false
-misplaced Full error = false
+misplaced State.NotDrawn error = ltb 0 error
+misplaced (State.Drawn projected) error = false
+misplaced State.Full error = false
 
 -- a line, unless its error breaks a rule: 14 where it exceeds the value, then 15
 unfoldable pub checkedLine : ℕ → Line → Outcome Line
@@ -46,25 +39,29 @@ checkedFrom item [] = accepted []
 checkedFrom item (line ∷ later) =
     after (λ good. after (λ rest. accepted (good ∷ rest)) (checkedFrom (suc item) later)) (checkedLine item line)
 
--- the lines at an interval and a start, none of whose errors breaks a rule
-unfoldable pub checkedLines : ℕ → ℕ → List ℕ → List ℕ → Outcome (List Line)
-checkedLines J start ledger errors = checkedFrom 0 (linesOf J start ledger errors)
+-- the lines at an interval and a start, the first with an item's number, none of whose errors breaks a rule
+unfoldable pub checkedLines : ℕ → ℕ → ℕ → List ℕ → List ℕ → Outcome (List Line)
+checkedLines item J start ledger errors = checkedFrom item (linesOf J start ledger errors)
 
 -- the projection at an interval and a start
-unfoldable pub projectionAt : ℕ → ℕ → List ℕ → List ℕ → Outcome Projection
-projectionAt J start ledger errors = after (λ lines. accepted (projectionOf lines)) (checkedLines J start ledger errors)
+unfoldable pub projectionAt : ℕ → ℕ → ℕ → List ℕ → List ℕ → Outcome Projection
+projectionAt item J start ledger errors = after (λ lines. accepted (projectionOf lines)) (checkedLines item J start ledger errors)
 
--- at the final interval
+-- at the final interval, of a whole ledger
 abbrev pub projectedBy : List ℕ → ℕ → List ℕ → Figures → Outcome Projection
-projectedBy ledger start errors figures = projectionAt (figures .interval) start ledger errors
+projectedBy ledger start errors figures = projectionAt 0 (figures .interval) start ledger errors
 
 -- the projection, after the refusals of the draw: the errors stand beside the ledger
 unfoldable pub projectOf : List ℕ → ℕ → ℕ → List ℕ → Outcome Projection
 projectOf ledger n start errors = after (projectedBy ledger start errors) (figuresFor ledger n start (length errors))
 
+-- what `project` promises
+pub record ProjectPromise (ledger : List ℕ) (n start : ℕ) (errors : List ℕ) (r : ProjectAnswer) : Type 0 where
+  pub answer : projectSays r ≡ projectOf ledger n start errors
+
 -- what the walk along the lines starts from
-pub record Ready (J start : ℕ) (ledger errors : List ℕ) : Type 0 where
-  pub few : length ledger ≤ mostLines
+pub record Ready (item J start : ℕ) (ledger errors : List ℕ) : Type 0 where
+  pub few : item + length ledger ≤ mostLines
   pub same : length errors ≡ length ledger
   pub narrow : J ≤ mostInterval
   pub early : start ≤ J

@@ -1,14 +1,16 @@
 // The projection of the errors that were found: step 5.
 use split::SplitAnswer;
+use terms::Cent;
 use terms::Item;
 use terms::Refusal;
+use walk::Ahead;
 ghost use mathlib.Core.Path.{_≡_};
 ghost use Prim.Native.Nat.{_<_, _≤_};
 ghost use Rattle.terms.specs.Limits.{mostInterval};
 ghost use Rattle.project.specs.Lines.{amount};
-ghost use Rattle.project.specs.Walk.{lineAt, addedTo, Fits};
-ghost use Rattle.project.specs.Gathered.{keptBy, Gathered};
-ghost use Rattle.project.specs.Project.{lineSays, projectSays, checkedLine, projectOf, Ready};
+ghost use Rattle.project.specs.Gather.{lineAt, addedTo, Fits};
+ghost use Rattle.project.specs.Project.{lineSays, checkedLine, Ready, ProjectPromise};
+ghost use Rattle.project.specs.Gather.{keptBy, Room, PassPromise, GatherPromise};
 
 // What a line ends as; a drawn line carries its projected amount.
 pub enum State {
@@ -42,6 +44,18 @@ pub enum ProjectAnswer {
     Refused(Refusal),
 }
 
+// What goes from line to line: the sums so far, and the distance to the next drawing point.
+struct Progress {
+    sums: Projection,
+    next: Ahead,
+}
+
+// The progress with one line more, or the line's refusal.
+enum PassAnswer {
+    Further(Progress),
+    Refused(Refusal),
+}
+
 // The amount of a drawn line: error × interval / value, rounded up once.
 fn amount_of(value: u64, error: u64, interval: u64) -> u64
     requires { ⌜ (0 < value) × (value ≤ interval) × (error ≤ value) × (interval ≤ mostInterval) ⌝ }
@@ -53,10 +67,10 @@ fn amount_of(value: u64, error: u64, interval: u64) -> u64
     (error * interval + (value - 1)) / value
 }
 
-// A line with its state, where the next drawing point lies `next` cents from its first cent.
-pub fn line_of(value: u64, error: u64, interval: u64, next: u64) -> Line
+// A line with its state, by the distance from its first cent to the next drawing point.
+pub fn line_of(value: u64, error: u64, interval: u64, next: Ahead) -> Line
     requires { ⌜ (error ≤ value) × (interval ≤ mostInterval) ⌝ }
-    ensures { λ r. ⌜ r ≡ lineAt interval next value error ⌝ }
+    ensures { λ r. ⌜ r ≡ lineAt interval (next .0) value error ⌝ }
 {
     if value > interval {
         return Line {
@@ -65,7 +79,7 @@ pub fn line_of(value: u64, error: u64, interval: u64, next: u64) -> Line
             state: State::Full,
         };
     }
-    if next < value {
+    if next.0 < value {
         let amount = amount_of(value, error, interval);
         return Line {
             value,
@@ -81,9 +95,9 @@ pub fn line_of(value: u64, error: u64, interval: u64, next: u64) -> Line
 }
 
 // The line with its state, or 14 where its error exceeds its value, or 15 where it has an error and is neither drawn nor full.
-fn checked_line(item: Item, value: u64, error: u64, interval: u64, next: u64) -> LineAnswer
+fn checked_line(item: Item, value: u64, error: u64, interval: u64, next: Ahead) -> LineAnswer
     requires { ⌜ interval ≤ mostInterval ⌝ }
-    ensures { λ r. ⌜ lineSays r ≡ checkedLine (item .0) (lineAt interval next value error) ⌝ }
+    ensures { λ r. ⌜ lineSays r ≡ checkedLine (item .0) (lineAt interval (next .0) value error) ⌝ }
 {
     if error > value {
         return LineAnswer::Refused(Refusal::ErrorAboveValue(item.0 as u64));
@@ -158,49 +172,77 @@ fn keep(amounts: &mut [u64], m: u64, line: Line)
     }
 }
 
-// Checks and adds the lines, one by one, and keeps the amounts in ledger order, as many as there is room for.
+// One line is passed: checked, its amount kept, added to the sums, and walked over.
+fn pass_line(
+    item: Item,
+    value: u64,
+    error: u64,
+    interval: u64,
+    at: Progress,
+    amounts: &mut [u64],
+) -> PassAnswer
+    requires { ⌜ Room interval value (at .sums) ⌝ }
+    ensures { λ r. ⌜ PassPromise (item .0) value error interval at (now (amounts .entry)) r (now (amounts .exit)) ⌝ }
+{
+    let before = at.sums;
+    let here = at.next;
+    match checked_line(item, value, error, interval, here) {
+        LineAnswer::Refused(why) => PassAnswer::Refused(why),
+        LineAnswer::Known(line) => {
+            keep(amounts, before.m, line);
+            let sums = added(before, line);
+            let next = walk::step_over(value, interval, here);
+            PassAnswer::Further(Progress { sums, next })
+        }
+    }
+}
+
+// Checks and adds the lines, one by one, the first of which has the number `first`, and keeps the amounts in ledger order, as many
+// as there is room for.
 pub fn gather(
+    first: Item,
     ledger: &[u64],
     interval: u64,
-    start: u64,
+    start: Cent,
     errors: &[u64],
     amounts: &mut [u64],
 ) -> ProjectAnswer
-    requires { ⌜ Ready interval start (now ledger) (now errors) ⌝ }
-    ensures { λ r. ⌜ Gathered interval start (now (ledger .entry)) (now (errors .entry)) (now (amounts .entry)) (projectSays r) (now (amounts .exit)) ⌝ }
+    requires { ⌜ Ready (first .0) interval (start .0) (now ledger) (now errors) ⌝ }
+    ensures { λ r. ⌜ GatherPromise (first .0) interval (start .0) (now (ledger .entry)) (now (errors .entry)) (now (amounts .entry)) r (now (amounts .exit)) ⌝ }
 {
-    let mut sums = Projection {
+    let none = Projection {
         full: 0,
         sampled: 0,
         m: 0,
     };
-    let mut next = start;
-    let mut item: usize = 0;
-    while item < ledger.len() {
-        let value = ledger[item];
-        match checked_line(Item(item), value, errors[item], interval, next) {
-            LineAnswer::Refused(why) => return ProjectAnswer::Refused(why),
-            LineAnswer::Known(line) => {
-                keep(amounts, sums.m, line);
-                sums = added(sums, line);
-            }
+    let mut at = Progress {
+        sums: none,
+        next: Ahead(start.0),
+    };
+    let mut line: usize = 0;
+    while line < ledger.len() {
+        let item = first.0 + line;
+        let value = ledger[line];
+        match pass_line(Item(item), value, errors[line], interval, at, amounts) {
+            PassAnswer::Refused(why) => return ProjectAnswer::Refused(why),
+            PassAnswer::Further(further) => at = further,
         }
-        next = draw::step_over(value, interval, next);
-        item += 1;
+        line += 1;
     }
+    let sums = at.sums;
     ProjectAnswer::Projected(sums)
 }
 
 // The projection of the errors that are entered for a ledger's lines, or the first refusal.
 pub fn project(ledger: &[u64], n: u64, start: u64, errors: &[u64]) -> ProjectAnswer
-    ensures { λ r. ⌜ projectSays r ≡ projectOf (now (ledger .entry)) n start (now (errors .entry)) ⌝ }
+    ensures { λ r. ⌜ ProjectPromise (now (ledger .entry)) n start (now (errors .entry)) r ⌝ }
 {
-    match draw::figures_for(ledger, n, start, errors.len()) {
+    match split::figures_for(ledger, n, Cent(start), errors.len()) {
         SplitAnswer::Refused(why) => ProjectAnswer::Refused(why),
         SplitAnswer::Split(figures) => {
             let interval = figures.interval;
             let mut none = [0u64; 0];
-            gather(ledger, interval, start, errors, &mut none)
+            gather(Item(0), ledger, interval, Cent(start), errors, &mut none)
         }
     }
 }

@@ -1,5 +1,4 @@
 -- What the proofs of several functions use.
 pub mod Passing
-pub mod Buffers
 pub mod Second
 pub mod Answers

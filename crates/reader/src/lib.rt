@@ -8,7 +8,14 @@ use workfile::Tally;
 ghost use mathlib.Core.Path.{_≡_};
 ghost use Rattle.workfile.specs.Decode.{decode};
 ghost use Rattle.workfile.specs.Promises.{ReadPromise};
-ghost use Rattle.reader.specs.Steps.{roomNeeded, checkOf};
+ghost use Rattle.reader.specs.Steps.{Opened, stoppedIn, checkOf};
+
+// Where the first pass stopped: the offset after the records that the rules allow, Z left out; their counts; and whether Z ends them.
+pub struct Stopped {
+    pub at: usize,
+    pub tally: Tally,
+    pub ends: bool,
+}
 
 // A file judged by the rules: legal, or the offset of the first record that breaks one.
 pub enum Checked {
@@ -16,24 +23,18 @@ pub enum Checked {
     Broken(usize),
 }
 
-// The first pass: the rules alone.
-fn check(file: &[u8]) -> Checked
-    ensures { λ r. ⌜ r ≡ checkOf (decode (now (file .entry))) ⌝ }
+// The records after P, as far as the rules allow them.
+fn pass_records(file: &[u8]) -> Stopped
+    requires { ⌜ Opened (now file) ⌝ }
+    ensures { λ r. ⌜ r ≡ stoppedIn (now (file .entry)) ⌝ }
 {
-    if file.len() < 18 {
-        return Checked::Broken(0);
-    }
-    let kind = file[0];
-    if kind != 0x50 {
-        return Checked::Broken(0);
-    }
-    let mut at: usize = 18;
     let mut tally = Tally {
         words: 0,
         lines: 0,
         sum: 0,
         next_line: 0,
     };
+    let mut at: usize = 18;
     loop {
         let found = records::record_at(file, at);
         let judged = records::rules::judge(tally, found);
@@ -43,41 +44,78 @@ fn check(file: &[u8]) -> Checked
                 at = at + size;
             }
             Judged::Last => {
-                if file.len() - at == 13 {
-                    return Checked::Legal;
-                }
-                return Checked::Broken(at + 13);
+                return Stopped {
+                    at,
+                    tally,
+                    ends: true,
+                };
             }
             Judged::Bad => {
-                return Checked::Broken(at);
+                return Stopped {
+                    at,
+                    tally,
+                    ends: false,
+                };
             }
         }
     }
 }
 
-// The first number of entries that is not met, or 0 where there is room for every legal file.
-fn room_needed(words: usize, values: usize, errors: usize) -> usize
-    ensures { λ r. ⌜ r ≡ roomNeeded words values errors ⌝ }
+// The first pass: the rules alone. Where there is no P, nothing is counted.
+pub fn pass(file: &[u8]) -> Stopped
+    ensures { λ r. ⌜ r ≡ stoppedIn (now (file .entry)) ⌝ }
 {
-    if words < workfile::MOST_WORDS {
-        return workfile::MOST_WORDS;
+    let tally = Tally {
+        words: 0,
+        lines: 0,
+        sum: 0,
+        next_line: 0,
+    };
+    if file.len() < 18 {
+        return Stopped {
+            at: 0,
+            tally,
+            ends: false,
+        };
     }
-    if values < workfile::MOST_FILE_LINES {
-        return workfile::MOST_FILE_LINES;
+    let kind = file[0];
+    if kind != 0x50 {
+        return Stopped {
+            at: 0,
+            tally,
+            ends: false,
+        };
     }
-    if errors < workfile::MOST_FILE_LINES {
-        return workfile::MOST_FILE_LINES;
+    pass_records(file)
+}
+
+// What the first pass says of the file: Z is last, and nothing follows.
+fn check(file: &[u8]) -> Checked
+    ensures { λ r. ⌜ r ≡ checkOf (decode (now (file .entry))) ⌝ }
+{
+    let stopped = pass(file);
+    let stop = stopped.at;
+    if stopped.ends {
+        if file.len() - stop == 13 {
+            return Checked::Legal;
+        }
+        return Checked::Broken(stop + 13);
     }
-    0
+    Checked::Broken(stop)
 }
 
 // The content of a working file goes to the buffers; 18 before 17, and a refused call changes nothing.
 pub fn read(file: &[u8], words: &mut [u64], values: &mut [u64], errors: &mut [u64]) -> ReadAnswer
     ensures { λ r. ⌜ ReadPromise (now (file .entry)) (now (words .entry)) (now (values .entry)) (now (errors .entry)) r (now (words .exit)) (now (values .exit)) (now (errors .exit)) ⌝ }
 {
-    let needed = room_needed(words.len(), values.len(), errors.len());
-    if needed > 0 {
-        return ReadAnswer::Refused(Refusal::RoomTooShort(needed as u64));
+    if words.len() < workfile::MOST_WORDS {
+        return ReadAnswer::Refused(Refusal::RoomTooShort(workfile::MOST_WORDS as u64));
+    }
+    if values.len() < workfile::MOST_FILE_LINES {
+        return ReadAnswer::Refused(Refusal::RoomTooShort(workfile::MOST_FILE_LINES as u64));
+    }
+    if errors.len() < workfile::MOST_FILE_LINES {
+        return ReadAnswer::Refused(Refusal::RoomTooShort(workfile::MOST_FILE_LINES as u64));
     }
     match check(file) {
         Checked::Broken(at) => ReadAnswer::Refused(Refusal::FileBreaksRule(at as u64)),

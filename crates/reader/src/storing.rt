@@ -1,29 +1,16 @@
 // The second pass, over a file that keeps the rules: its content goes to the buffers.
 use records::Judged;
 use workfile::Contents;
-use workfile::FileRecord;
 use workfile::Tally;
 ghost use mathlib.Core.Path.{_≡_};
 ghost use Prim.Native.Nat.{_≤_};
 ghost use lib.ListN.{length};
-ghost use Rattle.workfile.specs.Decode.{planOf};
+ghost use Rattle.workfile.specs.Decode.{recordAt, planOf};
 ghost use Rattle.workfile.specs.Promises.{Rooms};
-ghost use Rattle.records.specs.Judging.{recordAt};
-ghost use Rattle.reader.specs.Steps.{contentsWith, zeroed, Ready, Stepped, IsLegal, Stored};
+ghost use Rattle.store.specs.Storing.{HasPlace};
+ghost use Rattle.reader.specs.Steps.{contentsWith, Stepped, IsLegal, Stored};
 
-// Zeros from `from` up to `to`.
-fn clear(buffer: &mut [u64], from: usize, to: usize)
-    requires { ⌜ (from ≤ to) × (to ≤ length (now buffer)) ⌝ }
-    ensures { λ r. ⌜ now (buffer .exit) ≡ zeroed (now (buffer .entry)) from to ⌝ }
-{
-    let mut i = from;
-    while i < to {
-        buffer[i] = 0;
-        i += 1;
-    }
-}
-
-// The record at a place of a legal file goes to its buffer; answers its judgement. Lines that E passes over, and those after the last E, get error 0.
+// The record at a place of a legal file goes to its buffer; answers its judgement.
 fn step(
     file: &[u8],
     at: usize,
@@ -32,31 +19,12 @@ fn step(
     values: &mut [u64],
     errors: &mut [u64],
 ) -> Judged
-    requires { ⌜ (at ≤ length (now file)) × Ready tally (recordAt (now file) at) (now words) (now values) (now errors) ⌝ }
+    requires { ⌜ (at ≤ length (now file)) × HasPlace tally (recordAt (now file) at) (now words) (now values) (now errors) ⌝ }
     ensures { λ r. ⌜ Stepped (now (file .entry)) at tally r (now (words .entry)) (now (values .entry)) (now (errors .entry)) (now (words .exit)) (now (values .exit)) (now (errors .exit)) ⌝ }
 {
     let found = records::record_at(file, at);
     let judged = records::rules::judge(tally, found);
-    match found {
-        FileRecord::Word(word) => {
-            let i = tally.words;
-            words[i] = word;
-        }
-        FileRecord::Value(value) => {
-            let i = tally.lines;
-            values[i] = value;
-        }
-        FileRecord::ErrorOf(line, error) => {
-            let i = tally.next_line;
-            clear(errors, i, line);
-            errors[line] = error;
-        }
-        FileRecord::End(count, _) => {
-            let i = tally.next_line;
-            clear(errors, i, count);
-        }
-        FileRecord::Nothing => {}
-    }
+    store::put_record(found, tally, words, values, errors);
     judged
 }
 

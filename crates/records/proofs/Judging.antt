@@ -1,6 +1,6 @@
 -- The judgement of a record from the rules as facts, and what each judgement says of the record. Assumes nothing.
 use Prim.Native.Nat.{ℕ}
-use mathlib.Core.Path.{_≡_, refl}
+use mathlib.Core.Path.{_≡_, refl, ap, sym, _∙_}
 use mathlib.Core.Bool.{true, false}
 use native.Mathlib.Omega.{arith}
 use Rattle.terms.specs.Numbers.{pick}
@@ -9,8 +9,10 @@ use Rattle.workfile.specs.Decode.{size, isEnd, fits}
 use Rattle.workfile.specs.Rules.{Rule}
 use Rattle.workfile.specs.declared.Tally.{Tally}
 use Rattle.workfile.specs.declared.FileRecord.{FileRecord}
+use Rattle.workfile.specs.declared.FileRecord.the-variants.{Nothing}
 use Rattle.workfile.proofs.Rules.{rule, fitted}
 use Rattle.records.specs.Judging.{tallied, judged}
+use Rattle.records.specs.declared.Judged.{Judged}
 use Rattle.records.specs.declared.Judged.the-variants.{Next, Last, Bad}
 
 -- the judgement of a record, from the rules as facts
@@ -22,6 +24,13 @@ module _ (t : Tally) (r : FileRecord) where
   pub fails : (Rule t r → ⊥) → Bad ≡ judged t r
   unfolding judged
   fails h = by-test (λ j. Bad ≡ j) (fits t r) (λ e. absurd (h (rule t r e))) (λ _. refl)
+
+-- the judgement of a record that is known
+pub judged-as : (t : Tally) {r x : FileRecord} {j : Judged} → j ≡ judged t x → r ≡ x → j ≡ judged t r
+judged-as t is known = is ∙ ap (judged t) (sym known)
+
+pub no-record : (t : Tally) (r : FileRecord) → r ≡ Nothing → Bad ≡ judged t r
+no-record t r e = fails t r (λ h. rw e at h)
 
 -- what each judgement says of the record
 pub record Went (t : Tally) (r : FileRecord) (u : Tally) (n : ℕ) : Type 0 where

@@ -1,3 +1,3 @@
--- What the proofs of several functions use, and the laws that the reader cites.
-pub mod Finding
+-- What the proofs of several functions use, and the laws that readers and parsers cite.
 pub mod Judging
+pub mod Counting

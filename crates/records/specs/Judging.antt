@@ -1,26 +1,17 @@
--- The record at a place of a file, and a record judged from the counts of those before it. These are definitions: nothing is assumed.
-use Prim.Native.Nat.{ℕ, _+_}
-use mathlib.Core.List.{List}
-use lib.ListN.{drop}
+-- A record judged from the counts of those before it. Definitions: nothing is assumed.
+use Prim.Native.Nat.{_+_}
 use Rattle.terms.specs.Numbers.{pick}
-use Rattle.workfile.specs.Decode.{recordOf, size, isEnd, fits}
-use Rattle.workfile.specs.declared.Tally.{Tally}
-use Rattle.workfile.specs.declared.FileRecord.{FileRecord}
-use Rattle.workfile.specs.declared.FileRecord.the-variants.{Word, Value, ErrorOf, End, Nothing}
+use Rattle.workfile.specs.Decode.{size, isEnd, fits}
+use Rattle.workfile.specs.declared.{Tally.Tally, FileRecord.FileRecord}
 use Rattle.records.specs.declared.Judged.{Judged}
-use Rattle.records.specs.declared.Judged.the-variants.{Next, Last, Bad}
 
--- the record at a place of a file
-unfoldable pub recordAt : List ℕ → ℕ → FileRecord
-recordAt f at = recordOf (drop at f)
-
--- the counts with one record more
+-- the counts with one record more; Z gives the lines that are left their error
 abbrev pub tallied : Tally → FileRecord → Tally
-tallied t (Word w) = record { words = t .words + 1; lines = t .lines; sum = t .sum; «next_line» = t .«next_line» }
-tallied t (Value v) = record { words = t .words; lines = t .lines + 1; sum = t .sum + v; «next_line» = t .«next_line» }
-tallied t (ErrorOf l e) = record { words = t .words; lines = t .lines; sum = t .sum; «next_line» = l + 1 }
-tallied t (End n s) = t
-tallied t Nothing = t
+tallied t (FileRecord.Word w) = record { words = t .words + 1; lines = t .lines; sum = t .sum; «next_line» = t .«next_line» }
+tallied t (FileRecord.Value v) = record { words = t .words; lines = t .lines + 1; sum = t .sum + v; «next_line» = t .«next_line» }
+tallied t (FileRecord.ErrorOf l e) = record { words = t .words; lines = t .lines; sum = t .sum; «next_line» = l + 1 }
+tallied t (FileRecord.End n s) = record { words = t .words; lines = t .lines; sum = t .sum; «next_line» = n }
+tallied t FileRecord.Nothing = t
 
 unfoldable pub judged : Tally → FileRecord → Judged
-judged t r = pick (fits t r) (pick (isEnd r) Last (Next (tallied t r) (size r))) Bad
+judged t r = pick (fits t r) (pick (isEnd r) Judged.Last (Judged.Next (tallied t r) (size r))) Judged.Bad

@@ -9,7 +9,7 @@ use workfile::Tally;
 ghost use mathlib.Core.Path.{_≡_};
 ghost use Prim.Native.Nat.{_≤_};
 ghost use lib.ListN.{length};
-ghost use Rattle.records.specs.Judging.{recordAt};
+ghost use Rattle.workfile.specs.Decode.{recordAt};
 
 // A record judged by the rules: the counts with it and its length; Z; or a broken rule.
 pub enum Judged {

@@ -1,37 +1,20 @@
--- A refusal that is told by its number and its place is the outcome that has them; and its number is never 0, so that a caller
--- can tell it from an accepted call. Assumes nothing.
-use mathlib.Core.Path.{_≡_, _∙_}
-use Prim.Native.Nat.{ℕ, _<_}
-use native.Mathlib.Omega.{arith}
+-- What C sees of an answer follows from its case; an export fixes its result as its operation fixes the answer; and a refusal's number is
+-- never 0, so that a caller can tell it from an accepted call. Assumes nothing.
+use mathlib.Core.Path.{_≡_, sym, ap, _∙_}
+use Prim.Native.Nat.{_<_}
 use Rattle.terms.specs.declared.Refusal.{Refusal}
-use Rattle.terms.specs.declared.Refusal.the-variants.{UnknownLevel, TooManyLines, ValueTooLarge, TotalTooLarge, TotalZero, ToleranceOutOfRange, ToleranceSpent, NoDraws, DrawsUsedUp, IntervalTooLarge, StartOutOfRange, NoWordPasses, LengthsDiffer, ErrorAboveValue, ErrorNotDrawn, TooManyErrors, FileBreaksRule, RoomTooShort, NoLegalFile}
-use Rattle.terms.specs.Refusals.{number}
-use Rattle.terms.specs.Outcome.{Outcome, refused, refusedBy}
-use Rattle.results.specs.Seen.{numberSeen}
+use Rattle.terms.specs.Outcome.{refusedBy}
+use Rattle.terms.proofs.Outcomes.{number-some}
+use Rattle.results.specs.Seen.{numberSeen, Sees}
 
-pub told : {A : Type 0} {n p number place : ℕ} {o : Outcome A} → n ≡ number → p ≡ place → refused number place ≡ o → refused n p ≡ o
-told e f g = (λ i. refused (e i) (f i)) ∙ g
+module _ {A O R : Type 0} (shows : O → R) (says : A → O) where
+  -- what is seen of a case is seen of an answer that is this case
+  pub of-case : {a b : A} {r : R} → a ≡ b → r ≡ shows (says b) → r ≡ shows (says a)
+  of-case e f = f ∙ sym (ap (λ a. shows (says a)) e)
 
-never-0 : (why : Refusal) → 0 < number why
-never-0 UnknownLevel = omega arith
-never-0 TooManyLines = omega arith
-never-0 (ValueTooLarge place) = omega arith
-never-0 (TotalTooLarge place) = omega arith
-never-0 TotalZero = omega arith
-never-0 ToleranceOutOfRange = omega arith
-never-0 ToleranceSpent = omega arith
-never-0 NoDraws = omega arith
-never-0 DrawsUsedUp = omega arith
-never-0 IntervalTooLarge = omega arith
-never-0 StartOutOfRange = omega arith
-never-0 (NoWordPasses place) = omega arith
-never-0 LengthsDiffer = omega arith
-never-0 (ErrorAboveValue place) = omega arith
-never-0 (ErrorNotDrawn place) = omega arith
-never-0 TooManyErrors = omega arith
-never-0 (FileBreaksRule place) = omega arith
-never-0 (RoomTooShort place) = omega arith
-never-0 NoLegalFile = omega arith
+  -- where a promise says which outcome it is, the result shows this outcome
+  pub as-promised : {Promise : A → Type 0} {r : R} {o : O} → ((a : A) → Promise a → says a ≡ o) → Sees shows says Promise r → r ≡ shows o
+  as-promised fixed s = s .shown ∙ ap shows (fixed (s .answer) (s .promised))
 
 pub refusal-seen : (A : Type 0) (why : Refusal) → 0 < numberSeen (refusedBy {A = A} why)
-refusal-seen A why = never-0 why
+refusal-seen A why = number-some why

@@ -1,23 +1,14 @@
--- What each exported function returns, from what its operation says. These are definitions: nothing is assumed.
+-- What each exported function returns, from what its operation says. Definitions: nothing is assumed.
 use Prim.Native.Nat.{ℕ}
 use Rattle.terms.specs.Outcome.{Outcome}
 use Rattle.split.specs.declared.Figures.{Figures}
 use Rattle.start.specs.declared.Chosen.{Chosen}
 use Rattle.project.specs.declared.Projection.{Projection}
-use Rattle.judge.specs.declared.Judgement.{Judgement}
-use Rattle.judge.specs.declared.Verdict.{Verdict}
+use Rattle.judge.specs.declared.{Judgement.Judgement, Verdict.Verdict}
 use Rattle.judge.specs.declared.Verdict.the-variants.{Below, Inconclusive, Above}
 use Rattle.workfile.specs.declared.Contents.{Contents}
 use Rattle.results.specs.Seen.{numberSeen, placeSeen, seen}
-use Rattle.results.specs.declared.SizeResult.{SizeResult}
-use Rattle.results.specs.declared.SplitResult.{SplitResult}
-use Rattle.results.specs.declared.StartResult.{StartResult}
-use Rattle.results.specs.declared.DrawResult.{DrawResult}
-use Rattle.results.specs.declared.ProjectResult.{ProjectResult}
-use Rattle.results.specs.declared.JudgeResult.{JudgeResult}
-use Rattle.results.specs.declared.ReadResult.{ReadResult}
-use Rattle.results.specs.declared.WriteResult.{WriteResult}
-use Rattle.results.specs.declared.SheetResult.{SheetResult}
+use Rattle.results.specs.declared.{SizeResult.SizeResult, SplitResult.SplitResult, StartResult.StartResult, DrawResult.DrawResult, ProjectResult.ProjectResult, JudgeResult.JudgeResult, ReadResult.ReadResult, WriteResult.WriteResult, SheetResult.SheetResult}
 
 abbrev pub sizeSeen : Outcome ℕ → SizeResult
 sizeSeen o = record { refusal = numberSeen o; place = placeSeen o; draws = seen (λ draws. draws) o }
@@ -35,26 +26,13 @@ splitSeen o =
     }
 
 abbrev pub startSeen : Outcome Chosen → StartResult
-startSeen o =
-    record {
-      refusal = numberSeen o;
-      place = placeSeen o;
-      start = seen (λ chosen. chosen .start) o;
-      words = seen (λ chosen. chosen .words) o;
-    }
+startSeen o = record { refusal = numberSeen o; place = placeSeen o; start = seen (λ chosen. chosen .start) o; words = seen (λ chosen. chosen .words) o }
 
 abbrev pub drawSeen : Outcome ℕ → DrawResult
 drawSeen o = record { refusal = numberSeen o; place = placeSeen o; drawn = seen (λ drawn. drawn) o }
 
 abbrev pub projectSeen : Outcome Projection → ProjectResult
-projectSeen o =
-    record {
-      refusal = numberSeen o;
-      place = placeSeen o;
-      full = seen (λ p. p .full) o;
-      sampled = seen (λ p. p .sampled) o;
-      m = seen (λ p. p .m) o;
-    }
+projectSeen o = record { refusal = numberSeen o; place = placeSeen o; full = seen (λ p. p .full) o; sampled = seen (λ p. p .sampled) o; m = seen (λ p. p .m) o }
 
 -- a verdict as a number; 0 is none of them
 unfoldable pub verdictNumber : Verdict → ℕ

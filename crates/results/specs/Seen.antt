@@ -1,5 +1,5 @@
--- What a caller in C sees of an outcome: a refusal's number and place, which are 0 where the call is accepted, and the figures of
--- the answer, which are 0 where it is refused. These are definitions: nothing is assumed.
+-- What a caller in C sees of an outcome: a refusal's number and place, and the figures, each 0 where there is none. Definitions: nothing is assumed.
+use mathlib.Core.Path.{_≡_}
 use Prim.Native.Nat.{ℕ}
 use Rattle.terms.specs.Outcome.{Outcome, accepted, refused}
 
@@ -14,3 +14,9 @@ placeSeen (refused number place) = place
 abbrev pub seen : {A : Type 0} → (A → ℕ) → Outcome A → ℕ
 seen figure (accepted a) = figure a
 seen figure (refused number place) = 0
+
+-- An exported function's promise, by the operation's own: the result r shows an answer that meets it.
+pub record Sees {A O R : Type 0} (shows : O → R) (says : A → O) (Promise : A → Type 0) (r : R) : Type 0 where
+  pub answer : A
+  pub promised : Promise answer
+  pub shown : r ≡ shows (says answer)

@@ -14,15 +14,18 @@ pub fn of_read(answer: ReadAnswer) -> ReadResult
     ensures { λ r. ⌜ r ≡ readSeen (readSays answer) ⌝ }
 {
     match answer {
-        ReadAnswer::Refused(why) => ReadResult {
-            refusal: terms::number_of(why),
-            place: terms::place_of(why),
-            level: 0,
-            te: 0,
-            ae: 0,
-            words: 0,
-            lines: 0,
-        },
+        ReadAnswer::Refused(why) => {
+            let told = terms::tell(why);
+            ReadResult {
+                refusal: told.number,
+                place: told.place,
+                level: 0,
+                te: 0,
+                ae: 0,
+                words: 0,
+                lines: 0,
+            }
+        }
         ReadAnswer::Read(contents) => {
             let level = contents.level as u64;
             ReadResult {
@@ -42,11 +45,14 @@ pub fn of_write(answer: WriteAnswer) -> WriteResult
     ensures { λ r. ⌜ r ≡ writeSeen (writeSays answer) ⌝ }
 {
     match answer {
-        WriteAnswer::Refused(why) => WriteResult {
-            refusal: terms::number_of(why),
-            place: terms::place_of(why),
-            length: 0,
-        },
+        WriteAnswer::Refused(why) => {
+            let told = terms::tell(why);
+            WriteResult {
+                refusal: told.number,
+                place: told.place,
+                length: 0,
+            }
+        }
         WriteAnswer::Written(length) => WriteResult {
             refusal: 0,
             place: 0,
@@ -59,11 +65,14 @@ pub fn of_sheet(answer: SheetAnswer) -> SheetResult
     ensures { λ r. ⌜ r ≡ sheetSeen (sheetSays answer) ⌝ }
 {
     match answer {
-        SheetAnswer::Refused(why) => SheetResult {
-            refusal: terms::number_of(why),
-            place: terms::place_of(why),
-            length: 0,
-        },
+        SheetAnswer::Refused(why) => {
+            let told = terms::tell(why);
+            SheetResult {
+                refusal: told.number,
+                place: told.place,
+                length: 0,
+            }
+        }
         SheetAnswer::Printed(length) => SheetResult {
             refusal: 0,
             place: 0,

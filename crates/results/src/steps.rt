@@ -25,11 +25,14 @@ pub fn of_size(answer: SizeAnswer) -> SizeResult
     ensures { λ r. ⌜ r ≡ sizeSeen (sizeSays answer) ⌝ }
 {
     match answer {
-        SizeAnswer::Refused(why) => SizeResult {
-            refusal: terms::number_of(why),
-            place: terms::place_of(why),
-            draws: 0,
-        },
+        SizeAnswer::Refused(why) => {
+            let told = terms::tell(why);
+            SizeResult {
+                refusal: told.number,
+                place: told.place,
+                draws: 0,
+            }
+        }
         SizeAnswer::Draws(draws) => SizeResult {
             refusal: 0,
             place: 0,
@@ -42,15 +45,18 @@ pub fn of_split(answer: SplitAnswer) -> SplitResult
     ensures { λ r. ⌜ r ≡ splitSeen (splitSays answer) ⌝ }
 {
     match answer {
-        SplitAnswer::Refused(why) => SplitResult {
-            refusal: terms::number_of(why),
-            place: terms::place_of(why),
-            interval: 0,
-            draws_left: 0,
-            sampled_total: 0,
-            full_lines: 0,
-            full_total: 0,
-        },
+        SplitAnswer::Refused(why) => {
+            let told = terms::tell(why);
+            SplitResult {
+                refusal: told.number,
+                place: told.place,
+                interval: 0,
+                draws_left: 0,
+                sampled_total: 0,
+                full_lines: 0,
+                full_total: 0,
+            }
+        }
         SplitAnswer::Split(figures) => SplitResult {
             refusal: 0,
             place: 0,
@@ -67,12 +73,15 @@ pub fn of_start(answer: StartAnswer) -> StartResult
     ensures { λ r. ⌜ r ≡ startSeen (startSays answer) ⌝ }
 {
     match answer {
-        StartAnswer::Refused(why) => StartResult {
-            refusal: terms::number_of(why),
-            place: terms::place_of(why),
-            start: 0,
-            words: 0,
-        },
+        StartAnswer::Refused(why) => {
+            let told = terms::tell(why);
+            StartResult {
+                refusal: told.number,
+                place: told.place,
+                start: 0,
+                words: 0,
+            }
+        }
         StartAnswer::Started(chosen) => StartResult {
             refusal: 0,
             place: 0,
@@ -86,11 +95,14 @@ pub fn of_draw(answer: DrawAnswer) -> DrawResult
     ensures { λ r. ⌜ r ≡ drawSeen (drawSays answer) ⌝ }
 {
     match answer {
-        DrawAnswer::Refused(why) => DrawResult {
-            refusal: terms::number_of(why),
-            place: terms::place_of(why),
-            drawn: 0,
-        },
+        DrawAnswer::Refused(why) => {
+            let told = terms::tell(why);
+            DrawResult {
+                refusal: told.number,
+                place: told.place,
+                drawn: 0,
+            }
+        }
         DrawAnswer::Drawn(drawn) => DrawResult {
             refusal: 0,
             place: 0,
@@ -103,13 +115,16 @@ pub fn of_project(answer: ProjectAnswer) -> ProjectResult
     ensures { λ r. ⌜ r ≡ projectSeen (projectSays answer) ⌝ }
 {
     match answer {
-        ProjectAnswer::Refused(why) => ProjectResult {
-            refusal: terms::number_of(why),
-            place: terms::place_of(why),
-            full: 0,
-            sampled: 0,
-            m: 0,
-        },
+        ProjectAnswer::Refused(why) => {
+            let told = terms::tell(why);
+            ProjectResult {
+                refusal: told.number,
+                place: told.place,
+                full: 0,
+                sampled: 0,
+                m: 0,
+            }
+        }
         ProjectAnswer::Projected(projection) => ProjectResult {
             refusal: 0,
             place: 0,
@@ -135,16 +150,19 @@ pub fn of_judge(answer: JudgeAnswer) -> JudgeResult
     ensures { λ r. ⌜ r ≡ judgeSeen (judgeSays answer) ⌝ }
 {
     match answer {
-        JudgeAnswer::Refused(why) => JudgeResult {
-            refusal: terms::number_of(why),
-            place: terms::place_of(why),
-            full: 0,
-            sampled: 0,
-            m: 0,
-            precision: 0,
-            upper_limit: 0,
-            verdict: 0,
-        },
+        JudgeAnswer::Refused(why) => {
+            let told = terms::tell(why);
+            JudgeResult {
+                refusal: told.number,
+                place: told.place,
+                full: 0,
+                sampled: 0,
+                m: 0,
+                precision: 0,
+                upper_limit: 0,
+                verdict: 0,
+            }
+        }
         JudgeAnswer::Judged(judgement) => {
             let projection = judgement.projection;
             let verdict = judgement.verdict;

@@ -4,13 +4,17 @@ use native.Mathlib.Omega.{arith}
 use mathlib.Core.Path.{_≡_, refl, sym, ap, subst, _∙_}
 use mathlib.Core.Bool.{Bool, true, false}
 use mathlib.Core.List.{List, [], _∷_, _++_}
+use mathlib.Core.Logic.{⊎-elim}
 use borrow.Author.Tests.{ltb-true}
 use lib.Dec.{ltb}
-use lib.ListN.{length, getD, drop, length-append}
+use lib.ListN.{length, getD, drop, length-append, List·getD-eq-default}
 use lib.Seq.{getD-drop}
 use Rattle.terms.specs.declared.Refusal.{Refusal}
-use Rattle.terms.specs.Refusals.{number, place}
+use Rattle.terms.specs.declared.Told.{Told}
+use Rattle.terms.specs.Refusals.{tells, number, place}
 use Rattle.terms.specs.Limits.{mostInterval}
+use Rattle.terms.proofs.Sums.{one-of-sum}
+use Rattle.terms.proofs.Tests.{le-or-lt}
 use Rattle.pen.specs.Letters.{letters}
 use Rattle.pen.specs.Text.{decimal}
 use Rattle.pen.specs.Page.{Wrote}
@@ -18,19 +22,19 @@ use Rattle.pen.proofs.Lengths.{Small, decimal-short, line-short}
 use Rattle.split.specs.declared.Figures.{Figures}
 use Rattle.start.specs.declared.Chosen.{Chosen}
 use Rattle.draw.specs.Row.{full}
-use Rattle.draw.specs.Walk.{stepOf}
+use Rattle.walk.specs.Walk.{aheadAfter}
 use Rattle.project.specs.declared.State.{State}
 use Rattle.project.specs.declared.State.the-variants.{NotDrawn, Drawn, Full}
 use Rattle.project.specs.declared.Line.{Line}
 use Rattle.project.specs.Lines.{amount, stateBy}
-use Rattle.project.specs.Walk.{lineAt, linesWalk}
+use Rattle.project.specs.Gather.{lineAt, linesWalk}
 use Rattle.project.proofs.Amounts.{amount-most}
 use Rattle.judge.specs.declared.Verdict.{Verdict}
 use Rattle.judge.specs.declared.Verdict.the-variants.{Below, Inconclusive, Above}
 use Rattle.judge.specs.declared.Judgement.{Judgement}
 use Rattle.steps.specs.declared.Planned.{Planned}
 use Rattle.steps.specs.declared.Answers.{Answers}
-use Rattle.steps.specs.Steps.{Passed}
+use Rattle.steps.specs.Steps.{Shown}
 use Rattle.sheet.specs.Lines.{planLine, splitLine, startLine, stateText, itemText, itemsText, projectLine, verdictWord, judgeLine, refusedLine, ledgerText, answersText}
 use Rattle.sheet.proofs.Items.{rest-all}
 
@@ -66,22 +70,32 @@ walk-short J next item (v ∷ vs) errors h narrow w hv he =
     let front : (k : ℕ) → getD (drop 1 errors) k 0 ≡ getD errors (suc k) 0 = λ k. let one : 1 + k ≡ suc k = omega arith in getD-drop 1 errors k 0 ∙ ap (λ (n : ℕ). getD errors n 0) one in
     let small = state-small J next v e (full J v) (ltb next v) refl narrow (w 0 (omega arith)) in
     let first = state-short item v e (l .state) (omega arith) (hv 0) (he 0) small in
-    let later = walk-short J (stepOf J next v) (suc item) vs (drop 1 errors) (omega arith) narrow (λ k g. omega (arith, w (suc k) (omega arith), front k)) (λ k. hv (suc k))
+    let later = walk-short J (aheadAfter J next v) (suc item) vs (drop 1 errors) (omega arith) narrow (λ k g. omega (arith, w (suc k) (omega arith), front k)) (λ k. hv (suc k))
     (λ k. subst Small (sym (front k)) (he (suc k))) in
-    omega (arith, length-append (itemText item l) (itemsText (suc item) (linesWalk J (stepOf J next v) vs (drop 1 errors))), first, later)
+    omega (arith, length-append (itemText item l) (itemsText (suc item) (linesWalk J (aheadAfter J next v) vs (drop 1 errors))), first, later)
 
-pub ledger-short : (J start : ℕ) (ledger errors : List ℕ) → Small (length ledger) → Passed J ledger errors → Fit ledger → Fit errors →
-    length (ledgerText J start ledger errors) ≤ 90 * length ledger
-ledger-short J start ledger errors h p hv he =
-    rw (rest-all J ledger errors start) (walk-short J start 0 ledger errors (omega arith) (p .narrow) (p .within) hv he)
+-- the values and the errors of a ledger that the steps accept fit
+module _ {J : ℕ} {ledger errors : List ℕ} (p : Shown J ledger errors) where
+  values-fit : Fit ledger
+  values-fit k = omega (arith, one-of-sum ledger k, p .summed)
+
+  errors-fit : Fit errors
+  errors-fit k =
+      ⊎-elim (λ h. omega (arith, List·getD-eq-default errors 0 {n = k} (omega (arith, p .same)))) (λ (h : k < length ledger). omega (arith, p .within k h, values-fit k)) (le-or-lt (length ledger) k)
+
+  pub ledger-short : (start : ℕ) → length (ledgerText J start ledger errors) ≤ 90 * length ledger
+  ledger-short start = rw (rest-all J ledger errors start) (walk-short J start 0 ledger errors (omega (arith, p .few)) (p .narrow) (p .within) values-fit errors-fit)
 
 refused-short : (number place : ℕ) → Small number → Small place → length (refusedLine number place) ≤ 50
 refused-short number place hn hp = omega (arith, line-short (letters "refused") (number ∷ place ∷ []) (hn, (hp, tt)))
 
--- the line of a refusal, written with its number and its place
-pub refused-written : (why : Refusal) {n p at at′ : ℕ} {page page′ : List ℕ} → n ≡ number why → p ≡ place why → Small n → Small p → Wrote page at (refusedLine n p) page′ at′ →
+-- the line of a refusal, written with the number and the place that it tells
+pub refused-written : (why : Refusal) {t : Told} {at at′ : ℕ} {page page′ : List ℕ} → t ≡ tells why → Small (t .number) → Small (t .place) →
+    Wrote page at (refusedLine (t .number) (t .place)) page′ at′ →
     Wrote page at (refusedLine (number why) (place why)) page′ at′ × (length (refusedLine (number why) (place why)) ≤ 50)
-refused-written why {n} {p} is-number is-place hn hp w = rw (← is-number, ← is-place) (w, refused-short n p hn hp)
+refused-written why {t} {at} {at′} {page} {page′} is hn hp w =
+    subst (λ (s : Told). Wrote page at (refusedLine (s .number) (s .place)) page′ at′ × (length (refusedLine (s .number) (s .place)) ≤ 50)) is
+    (w, refused-short (t .number) (t .place) hn hp)
 
 -- the figures fit
 pub record SmallPlanned (p : Planned) : Type 0 where
@@ -151,10 +165,10 @@ module _ (j : Judgement) (s : SmallJudgement j) where
         verdict-short (j .verdict),
       )
 
-pub answers-short : (ledger errors : List ℕ) (a : Answers) → SmallAnswers a → Small (length ledger) → Passed (a .figures .interval) ledger errors → Fit ledger → Fit errors →
+pub answers-short : (ledger errors : List ℕ) (a : Answers) → SmallAnswers a → Shown (a .figures .interval) ledger errors →
     length (answersText ledger errors a) ≤ 401 + 90 * length ledger
 unfolding answersText
-answers-short ledger errors a s h p hv he =
+answers-short ledger errors a s p =
     let plan = planLine (a .planned) in
     let split = splitLine (a .figures) in
     let start = startLine (a .chosen) in
@@ -163,15 +177,15 @@ answers-short ledger errors a s h p hv he =
     let judge = judgeLine (a .judgement) in
     omega (
       arith,
-      length-append plan (split ++ (start ++ (lines ++ (project ++ judge)))),
-      length-append split (start ++ (lines ++ (project ++ judge))),
-      length-append start (lines ++ (project ++ judge)),
+      length-append (plan ++ (split ++ start)) (lines ++ (project ++ judge)),
+      length-append plan (split ++ start),
+      length-append split start,
       length-append lines (project ++ judge),
       length-append project judge,
       plan-short (a .planned) (s .planned),
       split-short (a .figures) (s .figures),
       start-short (a .chosen) (s .start) (s .words),
-      ledger-short (a .figures .interval) (a .chosen .start) ledger errors h p hv he,
+      ledger-short p (a .chosen .start),
       project-short (a .judgement) (s .judgement),
       judge-short (a .judgement) (s .judgement),
     )

@@ -11,14 +11,14 @@ use Rattle.ledger.specs.Ledger as ledger
 use Rattle.size.specs.Size.{sizeAt, sizeOf}
 use Rattle.split.specs.Rounds.{rounds}
 use Rattle.split.specs.Split.{figuresFrom, splitOf}
+use Rattle.split.specs.Start.{figuresFor}
 use Rattle.start.specs.Start.{tried, firstFrom, startOf}
 use Rattle.draw.specs.Points.{points, covers}
-use Rattle.draw.specs.Draw.{figuresFor}
 use Rattle.project.specs.Lines.{amount, linesFrom, linesOf, total, amountsOf}
 use Rattle.project.specs.Project.{checkedLine, checkedFrom, checkedLines}
-use Rattle.precision.specs.Sorting.{insertDown, sortOnto, sortDown}
+use Rattle.sorting.specs.Sorting.{insertDown, sortOnto, sortDown}
 use Rattle.precision.specs.Precision.{roundUp, hundredths, precisionOf}
-use Rattle.judge.specs.Judge.{verdictOf, concluded, judgedLines, judgedAt, judgedFigures, judgedLedger, judgeOf}
+use Rattle.judge.specs.Judge.{verdictOf, concluded, judgedWith, judgedLines, judgedAt, judgedFigures, judgedLedger, judgeOf}
 use Rattle.workfile.specs.Numbers.{littleEndian}
 use Rattle.workfile.specs.Content.{planBytes, bytesOfAll}
 use Rattle.workfile.specs.Decode.{recordOf, fits, grow, run, decode}
@@ -41,7 +41,7 @@ claims errors = Value 30 ∷ Value 30 ∷ Value 40 ∷ Value 20 ∷ (errors ++ (
 
 pub worked : sheetText (file 90 100 0 (Word 63 ∷ Word 25 ∷ claims (ErrorOf 0 7 ∷ ErrorOf 2 10 ∷ ErrorOf 3 5 ∷ [])))
     ≡ letters "plan 90 120 100 0 3\nsplit 40 3 120 0 0\nstart 25 2\ndrawn 0 30 7 10\ndrawn 2 40 10 10\ndrawn 3 20 5 10\nproject 0 30 3\njudge 107 137 inconclusive\n"
-unfolding sheetText decode run recordOf fits grow littleEndian stepsText stepsOf totalledFrom sizedFrom splitFrom startedFrom judgedFrom levelOf ledger.ledgerOf ledger.linesOf ledger.linesFrom sizeOf sizeAt factors.rf factors.stepOf table divUp splitOf figuresFrom rounds startOf tried firstFrom judgeOf judgedLedger judgedFigures judgedAt judgedLines concluded verdictOf figuresFor checkedLines checkedFrom checkedLine linesOf linesFrom covers points amount total amountsOf precisionOf hundredths roundUp sortDown sortOnto insertDown answersText ledgerText itemsText decimal decimalIn
+unfolding sheetText decode run recordOf fits grow littleEndian stepsText stepsOf totalledFrom sizedFrom splitFrom startedFrom judgedFrom levelOf ledger.ledgerOf ledger.runningTotal ledger.runningFrom sizeOf sizeAt factors.rf factors.stepOf table divUp splitOf figuresFrom rounds startOf tried firstFrom judgeOf judgedLedger judgedFigures judgedAt judgedLines judgedWith concluded verdictOf figuresFor checkedLines checkedFrom checkedLine linesOf linesFrom covers points amount total amountsOf precisionOf hundredths roundUp sortDown sortOnto insertDown answersText ledgerText itemsText decimal decimalIn
 worked = refl
 
 -- a full line and no interval: below at an error of 3, above at one of 5
@@ -49,34 +49,34 @@ pub verdicts : (sheetText (file 50 4 0 (Value 10 ∷ ErrorOf 0 3 ∷ End 1 10 �
     ≡ letters "plan 50 10 4 0 2\nsplit 0 1 0 1 10\nstart 0 0\nfull 0 10 3 3\nproject 3 0 0\njudge 0 3 below\n")
     × (sheetText (file 50 4 0 (Value 10 ∷ ErrorOf 0 5 ∷ End 1 10 ∷ []))
     ≡ letters "plan 50 10 4 0 2\nsplit 0 1 0 1 10\nstart 0 0\nfull 0 10 5 5\nproject 5 0 0\njudge 0 5 above\n")
-unfolding sheetText decode run recordOf fits grow littleEndian stepsText stepsOf totalledFrom sizedFrom splitFrom startedFrom judgedFrom levelOf ledger.ledgerOf ledger.linesOf ledger.linesFrom sizeOf sizeAt factors.rf factors.stepOf table divUp splitOf figuresFrom rounds startOf tried firstFrom judgeOf judgedLedger judgedFigures judgedAt judgedLines concluded verdictOf figuresFor checkedLines checkedFrom checkedLine linesOf linesFrom covers points amount total amountsOf precisionOf hundredths roundUp sortDown sortOnto insertDown answersText ledgerText itemsText decimal decimalIn
+unfolding sheetText decode run recordOf fits grow littleEndian stepsText stepsOf totalledFrom sizedFrom splitFrom startedFrom judgedFrom levelOf ledger.ledgerOf ledger.runningTotal ledger.runningFrom sizeOf sizeAt factors.rf factors.stepOf table divUp splitOf figuresFrom rounds startOf tried firstFrom judgeOf judgedLedger judgedFigures judgedAt judgedLines judgedWith concluded verdictOf figuresFor checkedLines checkedFrom checkedLine linesOf linesFrom covers points amount total amountsOf precisionOf hundredths roundUp sortDown sortOnto insertDown answersText ledgerText itemsText decimal decimalIn
 verdicts = (refl, refl)
 
 -- 17 comes first: no byte at all, and a file that ends after its plan, whose level is none of the nine
 pub unread : (sheetText [] ≡ letters "refused 17 0\n") × (sheetText (file 91 0 0 []) ≡ letters "refused 17 18\n")
-unfolding sheetText decode run recordOf fits grow littleEndian stepsText stepsOf totalledFrom sizedFrom splitFrom startedFrom judgedFrom levelOf ledger.ledgerOf ledger.linesOf ledger.linesFrom sizeOf sizeAt factors.rf factors.stepOf table divUp splitOf figuresFrom rounds startOf tried firstFrom judgeOf judgedLedger judgedFigures judgedAt judgedLines concluded verdictOf figuresFor checkedLines checkedFrom checkedLine linesOf linesFrom covers points amount total amountsOf precisionOf hundredths roundUp sortDown sortOnto insertDown answersText ledgerText itemsText decimal decimalIn
+unfolding sheetText decode run recordOf fits grow littleEndian stepsText stepsOf totalledFrom sizedFrom splitFrom startedFrom judgedFrom levelOf ledger.ledgerOf ledger.runningTotal ledger.runningFrom sizeOf sizeAt factors.rf factors.stepOf table divUp splitOf figuresFrom rounds startOf tried firstFrom judgeOf judgedLedger judgedFigures judgedAt judgedLines judgedWith concluded verdictOf figuresFor checkedLines checkedFrom checkedLine linesOf linesFrom covers points amount total amountsOf precisionOf hundredths roundUp sortDown sortOnto insertDown answersText ledgerText itemsText decimal decimalIn
 unread = (refl, refl)
 
 -- 1 before 5, and 5 before 6
 pub no-level : (sheetText (file 91 0 0 (Value 0 ∷ End 1 0 ∷ [])) ≡ letters "refused 1 0\n") × (sheetText (file 90 0 0 (Value 0 ∷ End 1 0 ∷ [])) ≡ letters "refused 5 0\n")
-unfolding sheetText decode run recordOf fits grow littleEndian stepsText stepsOf totalledFrom sizedFrom splitFrom startedFrom judgedFrom levelOf ledger.ledgerOf ledger.linesOf ledger.linesFrom sizeOf sizeAt factors.rf factors.stepOf table divUp splitOf figuresFrom rounds startOf tried firstFrom judgeOf judgedLedger judgedFigures judgedAt judgedLines concluded verdictOf figuresFor checkedLines checkedFrom checkedLine linesOf linesFrom covers points amount total amountsOf precisionOf hundredths roundUp sortDown sortOnto insertDown answersText ledgerText itemsText decimal decimalIn
+unfolding sheetText decode run recordOf fits grow littleEndian stepsText stepsOf totalledFrom sizedFrom splitFrom startedFrom judgedFrom levelOf ledger.ledgerOf ledger.runningTotal ledger.runningFrom sizeOf sizeAt factors.rf factors.stepOf table divUp splitOf figuresFrom rounds startOf tried firstFrom judgeOf judgedLedger judgedFigures judgedAt judgedLines judgedWith concluded verdictOf figuresFor checkedLines checkedFrom checkedLine linesOf linesFrom covers points amount total amountsOf precisionOf hundredths roundUp sortDown sortOnto insertDown answersText ledgerText itemsText decimal decimalIn
 no-level = (refl, refl)
 
 -- 3 before 6, 6 for TE and for AE, and 7, each before 12
 pub no-draws : (sheetText (file 90 0 0 (Value 30 ∷ Value 10000000000001 ∷ End 2 10000000000031 ∷ [])) ≡ letters "refused 3 1\n")
     × (sheetText (file 90 121 0 (claims [])) ≡ letters "refused 6 0\n") × (sheetText (file 90 100 121 (claims [])) ≡ letters "refused 6 0\n")
     × (sheetText (file 90 60 40 (claims [])) ≡ letters "refused 7 0\n")
-unfolding sheetText decode run recordOf fits grow littleEndian stepsText stepsOf totalledFrom sizedFrom splitFrom startedFrom judgedFrom levelOf ledger.ledgerOf ledger.linesOf ledger.linesFrom sizeOf sizeAt factors.rf factors.stepOf table divUp splitOf figuresFrom rounds startOf tried firstFrom judgeOf judgedLedger judgedFigures judgedAt judgedLines concluded verdictOf figuresFor checkedLines checkedFrom checkedLine linesOf linesFrom covers points amount total amountsOf precisionOf hundredths roundUp sortDown sortOnto insertDown answersText ledgerText itemsText decimal decimalIn
+unfolding sheetText decode run recordOf fits grow littleEndian stepsText stepsOf totalledFrom sizedFrom splitFrom startedFrom judgedFrom levelOf ledger.ledgerOf ledger.runningTotal ledger.runningFrom sizeOf sizeAt factors.rf factors.stepOf table divUp splitOf figuresFrom rounds startOf tried firstFrom judgeOf judgedLedger judgedFigures judgedAt judgedLines judgedWith concluded verdictOf figuresFor checkedLines checkedFrom checkedLine linesOf linesFrom covers points amount total amountsOf precisionOf hundredths roundUp sortDown sortOnto insertDown answersText ledgerText itemsText decimal decimalIn
 no-draws = (refl, refl, refl, refl)
 
 -- 10 before 12, and 12 before 14, with the words that were lent
 pub no-start : (sheetText (file 50 4000000001 0 (Value 4000000001 ∷ End 1 4000000001 ∷ [])) ≡ letters "refused 10 0\n")
     × (sheetText (file 90 100 0 (Word 63 ∷ Word 40 ∷ claims (ErrorOf 0 31 ∷ []))) ≡ letters "refused 12 2\n")
-unfolding sheetText decode run recordOf fits grow littleEndian stepsText stepsOf totalledFrom sizedFrom splitFrom startedFrom judgedFrom levelOf ledger.ledgerOf ledger.linesOf ledger.linesFrom sizeOf sizeAt factors.rf factors.stepOf table divUp splitOf figuresFrom rounds startOf tried firstFrom judgeOf judgedLedger judgedFigures judgedAt judgedLines concluded verdictOf figuresFor checkedLines checkedFrom checkedLine linesOf linesFrom covers points amount total amountsOf precisionOf hundredths roundUp sortDown sortOnto insertDown answersText ledgerText itemsText decimal decimalIn
+unfolding sheetText decode run recordOf fits grow littleEndian stepsText stepsOf totalledFrom sizedFrom splitFrom startedFrom judgedFrom levelOf ledger.ledgerOf ledger.runningTotal ledger.runningFrom sizeOf sizeAt factors.rf factors.stepOf table divUp splitOf figuresFrom rounds startOf tried firstFrom judgeOf judgedLedger judgedFigures judgedAt judgedLines judgedWith concluded verdictOf figuresFor checkedLines checkedFrom checkedLine linesOf linesFrom covers points amount total amountsOf precisionOf hundredths roundUp sortDown sortOnto insertDown answersText ledgerText itemsText decimal decimalIn
 no-start = (refl, refl)
 
 -- 14 and 15 line by line
 pub no-errors : (sheetText (file 90 100 0 (Word 25 ∷ claims (ErrorOf 0 7 ∷ ErrorOf 1 31 ∷ []))) ≡ letters "refused 14 1\n")
     × (sheetText (file 90 100 0 (Word 25 ∷ claims (ErrorOf 1 7 ∷ ErrorOf 2 41 ∷ []))) ≡ letters "refused 15 1\n")
-unfolding sheetText decode run recordOf fits grow littleEndian stepsText stepsOf totalledFrom sizedFrom splitFrom startedFrom judgedFrom levelOf ledger.ledgerOf ledger.linesOf ledger.linesFrom sizeOf sizeAt factors.rf factors.stepOf table divUp splitOf figuresFrom rounds startOf tried firstFrom judgeOf judgedLedger judgedFigures judgedAt judgedLines concluded verdictOf figuresFor checkedLines checkedFrom checkedLine linesOf linesFrom covers points amount total amountsOf precisionOf hundredths roundUp sortDown sortOnto insertDown answersText ledgerText itemsText decimal decimalIn
+unfolding sheetText decode run recordOf fits grow littleEndian stepsText stepsOf totalledFrom sizedFrom splitFrom startedFrom judgedFrom levelOf ledger.ledgerOf ledger.runningTotal ledger.runningFrom sizeOf sizeAt factors.rf factors.stepOf table divUp splitOf figuresFrom rounds startOf tried firstFrom judgeOf judgedLedger judgedFigures judgedAt judgedLines judgedWith concluded verdictOf figuresFor checkedLines checkedFrom checkedLine linesOf linesFrom covers points amount total amountsOf precisionOf hundredths roundUp sortDown sortOnto insertDown answersText ledgerText itemsText decimal decimalIn
 no-errors = (refl, refl)

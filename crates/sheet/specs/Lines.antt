@@ -1,20 +1,15 @@
--- The lines of the sheet, as document 01 has them under "The practice sheet". These are definitions: nothing is assumed.
+-- The lines of the sheet, as document 01 has them under "The practice sheet". Definitions: nothing is assumed.
 use Prim.Native.Nat.{ℕ, suc}
 use mathlib.Core.List.{List, [], _∷_, _++_}
 use Rattle.pen.specs.Letters.{letters}
 use Rattle.pen.specs.Text.{decimal, line}
 use Rattle.split.specs.declared.Figures.{Figures}
 use Rattle.start.specs.declared.Chosen.{Chosen}
-use Rattle.project.specs.declared.State.{State}
-use Rattle.project.specs.declared.State.the-variants.{NotDrawn, Drawn, Full}
-use Rattle.project.specs.declared.Line.{Line}
-use Rattle.project.specs.declared.Projection.{Projection}
+use Rattle.project.specs.declared.{State.State, Line.Line, Projection.Projection}
 use Rattle.project.specs.Lines.{linesOf}
-use Rattle.judge.specs.declared.Verdict.{Verdict}
+use Rattle.judge.specs.declared.{Verdict.Verdict, Judgement.Judgement}
 use Rattle.judge.specs.declared.Verdict.the-variants.{Below, Inconclusive, Above}
-use Rattle.judge.specs.declared.Judgement.{Judgement}
-use Rattle.steps.specs.declared.Planned.{Planned}
-use Rattle.steps.specs.declared.Answers.{Answers}
+use Rattle.steps.specs.declared.{Planned.Planned, Answers.Answers}
 
 -- plan: level, total, TE, AE, draws
 abbrev pub planLine : Planned → List ℕ
@@ -23,8 +18,7 @@ planLine p = line (letters "plan" ∷ decimal (p .level) ∷ decimal (p .total) 
 -- split: interval, draws left, sampled total, full lines, full total
 abbrev pub splitLine : Figures → List ℕ
 splitLine f =
-    line
-    (letters "split" ∷ decimal (f .interval) ∷ decimal (f .«draws_left») ∷ decimal (f .«sampled_total») ∷ decimal (f .«full_lines») ∷ decimal (f .«full_total») ∷ [])
+    line (letters "split" ∷ decimal (f .interval) ∷ decimal (f .«draws_left») ∷ decimal (f .«sampled_total») ∷ decimal (f .«full_lines») ∷ decimal (f .«full_total») ∷ [])
 
 -- start: start, words read
 abbrev pub startLine : Chosen → List ℕ
@@ -32,9 +26,9 @@ startLine c = line (letters "start" ∷ decimal (c .start) ∷ decimal (c .words
 
 -- a drawn or full line: line, value, error, projected (the error itself for a full line)
 abbrev pub stateText : ℕ → ℕ → ℕ → State → List ℕ
-stateText item value error NotDrawn = []
-stateText item value error (Drawn projected) = line (letters "drawn" ∷ decimal item ∷ decimal value ∷ decimal error ∷ decimal projected ∷ [])
-stateText item value error Full = line (letters "full" ∷ decimal item ∷ decimal value ∷ decimal error ∷ decimal error ∷ [])
+stateText item value error State.NotDrawn = []
+stateText item value error (State.Drawn projected) = line (letters "drawn" ∷ decimal item ∷ decimal value ∷ decimal error ∷ decimal projected ∷ [])
+stateText item value error State.Full = line (letters "full" ∷ decimal item ∷ decimal value ∷ decimal error ∷ decimal error ∷ [])
 
 abbrev pub itemText : ℕ → Line → List ℕ
 itemText item l = stateText item (l .value) (l .error) (l .state)
@@ -65,12 +59,13 @@ refusedLine number place = line (letters "refused" ∷ decimal number ∷ decima
 unfoldable pub ledgerText : ℕ → ℕ → List ℕ → List ℕ → List ℕ
 ledgerText J start ledger errors = itemsText 0 (linesOf J start ledger errors)
 
+-- the lines before those of the ledger, and after them
+abbrev pub openingText : Answers → List ℕ
+openingText a = planLine (a .planned) ++ (splitLine (a .figures) ++ startLine (a .chosen))
+
+abbrev pub closingText : Judgement → List ℕ
+closingText j = projectLine (j .projection) ++ judgeLine j
+
 -- the sheet of what the steps have answered on a ledger with its errors
 unfoldable pub answersText : List ℕ → List ℕ → Answers → List ℕ
-answersText ledger errors a =
-    planLine (a .planned)
-    ++ (splitLine (a .figures)
-    ++ (startLine (a .chosen)
-    ++ (ledgerText (a .figures .interval) (a .chosen .start) ledger errors
-    ++ (projectLine (a .judgement .projection)
-    ++ judgeLine (a .judgement)))))
+answersText ledger errors a = openingText a ++ (ledgerText (a .figures .interval) (a .chosen .start) ledger errors ++ closingText (a .judgement))

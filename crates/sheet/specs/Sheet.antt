@@ -1,4 +1,4 @@
--- The desk program's whole text for every input. These are definitions: nothing is assumed.
+-- The desk program's whole text for every input. Definitions: nothing is assumed.
 use Prim.Native.Nat.{ℕ}
 use mathlib.Core.Path.{_≡_}
 use mathlib.Core.List.{List, _++_}
@@ -10,7 +10,6 @@ use Rattle.workfile.specs.declared.Plan.{Plan}
 use Rattle.workfile.specs.Content.{Content}
 use Rattle.workfile.specs.Decode.{decode}
 use Rattle.sheet.specs.declared.SheetAnswer.{SheetAnswer}
-use Rattle.sheet.specs.declared.SheetAnswer.the-variants.{Printed, Refused}
 use Rattle.steps.specs.Steps.{stepsOf}
 use Rattle.sheet.specs.Lines.{answersText, refusedLine}
 
@@ -36,8 +35,8 @@ longestText = 184721
 
 -- on a page of any length: what the answer says, 18 where the page is too short, and the page afterwards
 abbrev pub sheetSays : SheetAnswer → Outcome ℕ
-sheetSays (Printed bytes) = accepted bytes
-sheetSays (Refused why) = refusedBy why
+sheetSays (SheetAnswer.Printed bytes) = accepted bytes
+sheetSays (SheetAnswer.Refused why) = refusedBy why
 
 unfoldable pub sheetOf : List ℕ → ℕ → Outcome ℕ
 sheetOf file room = pick (ltb room longestText) (refused 18 longestText) (accepted (length (sheetText file)))

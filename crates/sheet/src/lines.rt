@@ -9,15 +9,17 @@ use split::Figures;
 use start::Chosen;
 use steps::Answers;
 use steps::Planned;
+use terms::Cent;
 use terms::Refusal;
+use walk::Ahead;
 ghost use Prim.Native.Nat.{_+_, _*_, _≤_};
 ghost use mathlib.Core.List.{[], _∷_};
 ghost use lib.ListN.{length};
 ghost use Rattle.terms.specs.Refusals.{number, place};
 ghost use Rattle.pen.specs.Page.{Wrote};
 ghost use Rattle.pen.specs.Text.{more};
-ghost use Rattle.steps.specs.Steps.{Passed};
-ghost use Rattle.sheet.specs.Lines.{planLine, splitLine, startLine, itemText, ledgerText, projectLine, verdictWord, judgeLine, refusedLine, answersText};
+ghost use Rattle.steps.specs.Steps.{Shown};
+ghost use Rattle.sheet.specs.Lines.{planLine, splitLine, startLine, itemText, ledgerText, projectLine, verdictWord, judgeLine, refusedLine, openingText, closingText, answersText};
 
 fn plan_line(pen: Pen, page: &mut [u8], planned: Planned) -> Pen
     ensures { λ r. ⌜ Wrote (now (page .entry)) (pen .at) (planLine planned) (now (page .exit)) (r .at) ⌝ }
@@ -72,19 +74,19 @@ fn ledger_lines(
     ledger: &[u64],
     errors: &[u64],
     interval: u64,
-    start: u64,
+    start: Cent,
 ) -> Pen
-    requires { ⌜ Passed interval (now ledger) (now errors) ⌝ }
-    ensures { λ r. ⌜ Wrote (now (page .entry)) (pen .at) (ledgerText interval start (now (ledger .entry)) (now (errors .entry))) (now (page .exit)) (r .at) ⌝ }
+    requires { ⌜ Shown interval (now ledger) (now errors) ⌝ }
+    ensures { λ r. ⌜ Wrote (now (page .entry)) (pen .at) (ledgerText interval (start .0) (now (ledger .entry)) (now (errors .entry))) (now (page .exit)) (r .at) ⌝ }
 {
     let mut at = pen;
-    let mut next = start;
+    let mut next = Ahead(start.0);
     let mut item: usize = 0;
     while item < ledger.len() {
         let value = ledger[item];
         let line = project::line_of(value, errors[item], interval, next);
         at = item_line(at, page, item as u64, line);
-        next = draw::step_over(value, interval, next);
+        next = walk::step_over(value, interval, next);
         item += 1;
     }
     at
@@ -123,10 +125,26 @@ pub fn refused_line(pen: Pen, page: &mut [u8], why: Refusal) -> Pen
     ensures { λ r. ⌜ Wrote (now (page .entry)) (pen .at) (refusedLine (number why) (place why)) (now (page .exit)) (r .at) ⌝ }
     ensures { λ r. ⌜ length (refusedLine (number why) (place why)) ≤ 50 ⌝ }
 {
-    let number = terms::number_of(why);
-    let place = terms::place_of(why);
-    let numbers = [number, place];
+    let told = terms::tell(why);
+    let numbers = [told.number, told.place];
     pen.line(page, b"refused", &numbers)
+}
+
+// The lines before those of the ledger.
+fn opening_text(pen: Pen, page: &mut [u8], answers: Answers) -> Pen
+    ensures { λ r. ⌜ Wrote (now (page .entry)) (pen .at) (openingText answers) (now (page .exit)) (r .at) ⌝ }
+{
+    let planned = plan_line(pen, page, answers.planned);
+    let parted = split_line(planned, page, answers.figures);
+    start_line(parted, page, answers.chosen)
+}
+
+// The lines after those of the ledger.
+fn closing_text(pen: Pen, page: &mut [u8], judgement: Judgement) -> Pen
+    ensures { λ r. ⌜ Wrote (now (page .entry)) (pen .at) (closingText judgement) (now (page .exit)) (r .at) ⌝ }
+{
+    let projected = project_line(pen, page, judgement.projection);
+    judge_line(projected, page, judgement)
 }
 
 // The whole sheet of what the steps have answered.
@@ -137,16 +155,13 @@ pub fn answers_text(
     ledger: &[u64],
     errors: &[u64],
 ) -> Pen
-    requires { ⌜ Passed (answers .figures .interval) (now ledger) (now errors) ⌝ }
+    requires { ⌜ Shown (answers .figures .interval) (now ledger) (now errors) ⌝ }
     ensures { λ r. ⌜ Wrote (now (page .entry)) (pen .at) (answersText (now (ledger .entry)) (now (errors .entry)) answers) (now (page .exit)) (r .at) ⌝ }
     ensures { λ r. ⌜ length (answersText (now (ledger .entry)) (now (errors .entry)) answers) ≤ 401 + 90 * length (now (ledger .entry)) ⌝ }
 {
     let interval = answers.figures.interval;
-    let start = answers.chosen.start;
-    let planned = plan_line(pen, page, answers.planned);
-    let parted = split_line(planned, page, answers.figures);
-    let started = start_line(parted, page, answers.chosen);
-    let listed = ledger_lines(started, page, ledger, errors, interval, start);
-    let projected = project_line(listed, page, answers.judgement.projection);
-    judge_line(projected, page, answers.judgement)
+    let start = Cent(answers.chosen.start);
+    let opened = opening_text(pen, page, answers);
+    let listed = ledger_lines(opened, page, ledger, errors, interval, start);
+    closing_text(listed, page, answers.judgement)
 }

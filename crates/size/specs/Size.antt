@@ -1,4 +1,5 @@
--- Document 01, step 1: the number of draws. These are definitions: nothing is assumed.
+-- Document 01, step 1: the number of draws. Definitions: nothing is assumed.
+use mathlib.Core.Path.{_≡_}
 use Prim.Native.Nat.{ℕ, _-_, _*_}
 use lib.Dec.{ltb, leb, eqb}
 use Rattle.terms.specs.Outcome.{Outcome, accepted, refused, refusedBy, after}
@@ -8,12 +9,11 @@ use Rattle.factors.specs.declared.Level.{Level}
 use Rattle.factors.specs.Levels.{levelOf, ef}
 use Rattle.factors.specs.Factors.{rf}
 use Rattle.size.specs.declared.SizeAnswer.{SizeAnswer}
-use Rattle.size.specs.declared.SizeAnswer.the-variants.{Draws, Refused}
 
 -- what an answer says: the number of draws, or a refusal's number and place
 abbrev pub sizeSays : SizeAnswer → Outcome ℕ
-sizeSays (Draws n) = accepted n
-sizeSays (Refused why) = refusedBy why
+sizeSays (SizeAnswer.Draws n) = accepted n
+sizeSays (SizeAnswer.Refused why) = refusedBy why
 
 -- 100 × TE - AE × EF, what the anticipated error leaves of the tolerable
 abbrev pub spare : ℕ → ℕ → Level → ℕ
@@ -33,3 +33,7 @@ sizeAt total te ae level =
 -- 1 comes before them
 unfoldable pub sizeOf : ℕ → ℕ → ℕ → ℕ → Outcome ℕ
 sizeOf percent total te ae = after (sizeAt total te ae) (levelOf percent)
+
+-- what `size` promises of a level in percent, a total, TE, AE and the answer
+pub record SizePromise (percent total te ae : ℕ) (r : SizeAnswer) : Type 0 where
+  pub answer : sizeSays r ≡ sizeOf percent total te ae

@@ -3,7 +3,7 @@ use factors::Level;
 use factors::LevelAnswer;
 use terms::Refusal;
 ghost use mathlib.Core.Path.{_≡_};
-ghost use Rattle.size.specs.Size.{sizeSays, sizeAt, sizeOf};
+ghost use Rattle.size.specs.Size.{sizeSays, sizeAt, SizePromise};
 
 // The number of draws n, or the first refusal.
 pub enum SizeAnswer {
@@ -44,7 +44,7 @@ fn size_at(level: Level, total: u64, te: u64, ae: u64) -> SizeAnswer
 
 // The number of draws for a level in percent, a total, the tolerable error TE and the anticipated error AE.
 pub fn size(level: u8, total: u64, te: u64, ae: u64) -> SizeAnswer
-    ensures { λ r. ⌜ sizeSays r ≡ sizeOf level total te ae ⌝ }
+    ensures { λ r. ⌜ SizePromise level total te ae r ⌝ }
 {
     match factors::level_of(level) {
         LevelAnswer::Refused(why) => SizeAnswer::Refused(why),

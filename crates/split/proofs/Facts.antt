@@ -1,30 +1,39 @@
 -- What holds of every split, as an accepted answer's figures say it; and refusal 9 is never given. Assumes nothing.
-use mathlib.Core.Path.{_≡_, refl, sym, ap, _∙_}
+use mathlib.Core.Path.{_≡_, refl, sym, ap, subst, _∙_}
 use mathlib.Core.List.{List, [], _∷_}
-use mathlib.Core.Bool.{Bool}
+use mathlib.Core.Bool.{Bool, true, false}
+use mathlib.Core.Logic.{⊎-elim}
 use Prim.Native.Nat.{ℕ, _+_, _/_, _≤_, _<_}
+use native.Mathlib.Nat.{eq-zero-or-pos}
 use native.Mathlib.Omega.{arith}
 use borrow.Author.Tests.{ltb-false, eqb-false, ne-eqb}
-use lib.Dec.{ltb, eqb}
+use lib.Dec.{T, ltb, eqb}
 use lib.ListN.{length}
-use Rattle.terms.specs.Outcome.{Outcome, accepted, refused, after}
-use Rattle.terms.specs.Numbers.{pick, sum}
+use Rattle.terms.specs.declared.Refusal.{Refusal}
+use Rattle.terms.specs.Outcome.{Outcome, accepted, after, left}
+use Rattle.terms.specs.Numbers.{sum}
 use Rattle.terms.specs.Limits.{mostInterval}
-use Rattle.terms.proofs.Outcomes.{never, after-accepted, Gives, gives-after, gives-among}
+use Rattle.terms.proofs.Every.{both}
+use Rattle.terms.proofs.Outcomes.{never, after-accepted, among, Gives, gives-after, gives-among}
 use Rattle.terms.proofs.Tests.{by-test}
-use Rattle.ledger.specs.Ledger.{ledgerOf, linesFrom, linesOf, someTotal}
+use Rattle.ledger.specs.declared.LedgerAnswer.{LedgerAnswer}
+use Rattle.ledger.specs.declared.LedgerAnswer.the-variants as judged
+use Rattle.ledger.specs.Ledger.{ledgerSays, ledgerOf, LedgerPromise}
 use Rattle.ledger.proofs.Laws.{Good, good, ledgerNumbers, ledger-gives}
 use Rattle.split.specs.Rounds.{above, upTo, intervalOf, Rest, splitLines, intervals, becomesFull}
-use Rattle.split.specs.Split.{Totalled, figuresOf, settledOf, figuresFrom, splitOf}
+use Rattle.split.specs.Split.{splitSays, Totalled, figuresOf, withinMost, figuresFrom, splitOf, fullMarks, marksOf, FiguresPromise, SplitPromise}
 use Rattle.split.specs.declared.Figures.{Figures}
+use Rattle.split.specs.declared.SplitAnswer.{SplitAnswer}
+use Rattle.split.specs.declared.SplitAnswer.the-variants.{Split, Refused}
 use Rattle.split.proofs.Lines.{sum-parts, upTo-zero}
-use Rattle.split.proofs.Laws.{Settled}
 use Rattle.split.proofs.Intervals.{full-exactly}
-use Rattle.split.proofs.Answer.{split-settles}
+use Rattle.split.proofs.Answer.{split-settles, no-draws}
 
 pub record SplitFacts (ledger : List ℕ) (n beside : ℕ) (f : Figures) : Type 0 where
   -- the ledger is accepted
   pub ledger-good : Good ledger beside (sum ledger)
+  -- the figures are those of the rounds
+  pub rounds : f ≡ figuresOf ledger (splitLines ledger n)
   -- each full line uses a draw, and one at least is left
   pub draws : f .«full_lines» + f .«draws_left» ≡ n
   pub a-draw : 1 ≤ f .«draws_left»
@@ -42,16 +51,15 @@ pub record SplitFacts (ledger : List ℕ) (n beside : ℕ) (f : Figures) : Type 
   -- there is no interval only where nothing with value remains
   pub zero : f .interval ≡ 0 → f .«sampled_total» ≡ 0
 
-module _ (ledger : List ℕ) (n : ℕ) (some : n ≡ 0 → ⊥) where
+module _ (ledger : List ℕ) (n : ℕ) (some : 0 < n) where
   -- a draw is left, so 9 is not given
-  settled-is : settledOf ledger (splitLines ledger n) ≡ pick (ltb mostInterval (splitLines ledger n .interval)) (refused 10 0) (accepted (figuresOf ledger (splitLines ledger n)))
+  pub settled-is : figuresFrom ledger n ≡ withinMost (figuresOf ledger (splitLines ledger n))
+  unfolding figuresFrom
   settled-is =
       let k = split-settles ledger n some in
+      let draws : n ≡ 0 → ⊥ = λ z. omega arith in
       let draw : splitLines ledger n .draws ≡ 0 → ⊥ = λ z. omega arith in
-      simp (ne-eqb _ _ draw)
-
-  pub settled-gives : Gives (10 ∷ []) (settledOf ledger (splitLines ledger n))
-  settled-gives = rw settled-is (by-test (Gives (10 ∷ [])) (ltb mostInterval (splitLines ledger n .interval)) (λ p. tt) (λ p. tt))
+      simp (ne-eqb _ _ draws, ne-eqb _ _ draw)
 
   facts-of : (beside : ℕ) (f : Figures) → Good ledger beside (sum ledger) → splitLines ledger n .interval ≤ mostInterval → f ≡ figuresOf ledger (splitLines ledger n) → SplitFacts ledger n beside f
   facts-of beside f g top same =
@@ -60,47 +68,91 @@ module _ (ledger : List ℕ) (n : ℕ) (some : n ≡ 0 → ⊥) where
       let rest = ap sum (k .rest) in
       rw same (record {
         ledger-good = g;
+        rounds = refl;
         draws = omega arith;
         a-draw = k .left;
         totals = omega (arith, sum-parts (r .interval) ledger);
         sampled = rest;
         full = refl;
-        exactly = λ value. full-exactly ledger n value (omega arith);
+        exactly = λ value. full-exactly ledger n value some;
         final = k .final;
         small = k .small;
         most = top;
         zero = λ z. rest ∙ ap (λ (j : ℕ). sum (upTo j ledger)) z ∙ upTo-zero ledger;
       })
 
-  facts-settled : (beside : ℕ) (f : Figures) → Good ledger beside (sum ledger) → settledOf ledger (splitLines ledger n) ≡ accepted f → SplitFacts ledger n beside f
+  facts-settled : (beside : ℕ) (f : Figures) → Good ledger beside (sum ledger) → figuresFrom ledger n ≡ accepted f → SplitFacts ledger n beside f
   facts-settled beside f g e =
       by-test (λ o. o ≡ accepted f → SplitFacts ledger n beside f) (ltb mostInterval (splitLines ledger n .interval)) (λ p h. never h)
       (λ p h. let same : f ≡ figuresOf ledger (splitLines ledger n) = cc in facts-of beside f g (ltb-false _ _ p) same)
       (sym settled-is ∙ e)
 
+-- without draws nothing is accepted
+pub some-draws : (ledger : List ℕ) (n : ℕ) {f : Figures} → figuresFrom ledger n ≡ accepted f → 0 < n
+unfolding figuresFrom
+some-draws ledger n {f} = by-test (λ o. o ≡ accepted f → 0 < n) (eqb n 0) (λ z h. never h) (λ z h. let w = eqb-false n 0 z in omega arith)
+
 pub split-facts : (ledger : List ℕ) (n beside : ℕ) (f : Figures) → splitOf ledger n beside ≡ accepted f → SplitFacts ledger n beside f
-unfolding splitOf figuresFrom
+unfolding splitOf
 split-facts ledger n beside f e =
-    let a = after-accepted (figuresFrom ledger n) (ledgerOf ledger beside) f e in
+    let a = after-accepted (λ total. figuresFrom ledger n) (ledgerOf ledger beside) f e in
     let g = good ledger beside (a .0) (a .1) in
     let whole : Good ledger beside (sum ledger) = record { few = g .few; same = g .same; added = refl; some = omega arith; most = omega arith } in
-    by-test (λ o. o ≡ accepted f → SplitFacts ledger n beside f) (eqb n 0) (λ z h. never h) (λ z h. facts-settled ledger n (eqb-false n 0 z) beside f whole h) (a .2)
+    facts-settled ledger n (some-draws ledger n (a .2)) beside f whole (a .2)
 
 -- the split is what follows from the ledger's outcome
-pub from-ledger : (ledger : List ℕ) (n beside : ℕ) {o : Outcome ℕ} → o ≡ ledgerOf ledger beside → after (figuresFrom ledger n) o ≡ splitOf ledger n beside
+pub from-ledger : (ledger : List ℕ) (n beside : ℕ) {o : Outcome ℕ} → o ≡ ledgerOf ledger beside → after (λ total. figuresFrom ledger n) o ≡ splitOf ledger n beside
 unfolding splitOf
-from-ledger ledger n beside e = ap (after (figuresFrom ledger n)) e
+from-ledger ledger n beside e = ap (after (λ total. figuresFrom ledger n)) e
 
 pub totalled : (ledger : List ℕ) (beside total : ℕ) → accepted total ≡ ledgerOf ledger beside → Totalled ledger total
 totalled ledger beside total e = let g = good ledger beside total (sym e) in record { added = g .added; most = g .most }
 
--- the refusals that the split gives: 9 is not among them
+-- as `split_figures` meets it
+module _ {ledger : List ℕ} {n beside : ℕ} {r : LedgerAnswer} where
+  pub judged-refused : {why : Refusal} → r ≡ judged.Refused why → LedgerPromise ledger beside r → FiguresPromise ledger n beside (Refused why)
+  judged-refused is e = record { answer = from-ledger ledger n beside (sym (ap ledgerSays is) ∙ e .answer) }
+
+  pub judged-split : {total : ℕ} {a : SplitAnswer} → r ≡ judged.Total total → LedgerPromise ledger beside r → splitSays a ≡ figuresFrom ledger n → FiguresPromise ledger n beside a
+  judged-split is e s = record { answer = s ∙ from-ledger ledger n beside (sym (ap ledgerSays is) ∙ e .answer) }
+
+pub judged-asked : {ledger : List ℕ} {beside total : ℕ} {r : LedgerAnswer} → r ≡ judged.Total total → LedgerPromise ledger beside r → Totalled ledger total
+judged-asked {ledger} {beside} {total} is e = totalled ledger beside total (sym (ap ledgerSays is) ∙ e .answer)
+
+-- as `split` meets it
+module _ {ledger : List ℕ} {n : ℕ} {marks : List ℕ} {r : SplitAnswer} where
+  pub marks-kept : {why : Refusal} → r ≡ Refused why → FiguresPromise ledger n (length marks) r → SplitPromise ledger n marks (Refused why) marks
+  marks-kept is p = let e = sym (ap splitSays is) ∙ p .answer in record { answer = e; marks-left = ap (left (marksOf ledger) marks) e }
+
+  pub split-marked : {f : Figures} {marks′ : List ℕ} → r ≡ Split f → FiguresPromise ledger n (length marks) r → marks′ ≡ fullMarks (f .interval) ledger → SplitPromise ledger n marks (Split f) marks′
+  split-marked is p m = let e = sym (ap splitSays is) ∙ p .answer in record { answer = e; marks-left = m ∙ ap (left (marksOf ledger) marks) e }
+
+pub split-same : {ledger : List ℕ} {n beside : ℕ} {r : SplitAnswer} {f : Figures} → r ≡ Split f → FiguresPromise ledger n beside r → beside ≡ length ledger
+split-same {ledger} {n} {beside} {r} {f} is p = split-facts ledger n beside f (sym (p .answer) ∙ ap splitSays is) .ledger-good .same
+
+-- the refusals that the split gives: 9 is not among them, and 8 only without draws
 abbrev pub splitNumbers : List ℕ
 splitNumbers = 2 ∷ 13 ∷ 3 ∷ 4 ∷ 5 ∷ 8 ∷ 10 ∷ []
 
+pub drawn-gives : (ledger : List ℕ) (n : ℕ) → 0 < n → Gives (10 ∷ []) (figuresFrom ledger n)
+drawn-gives ledger n some = rw (settled-is ledger n some) (by-test (Gives (10 ∷ [])) (ltb mostInterval (splitLines ledger n .interval)) (λ p. tt) (λ p. tt))
+
+-- a split by draws gives what the judgement of the ledger gives, and 10
+pub split-with-draws : (numbers : List ℕ) (ledger : List ℕ) (n beside : ℕ) → 0 < n → T (among 10 numbers) → Gives numbers (ledgerOf ledger beside) → Gives numbers (splitOf ledger n beside)
+unfolding splitOf
+split-with-draws numbers ledger n beside some ten g =
+    gives-after numbers (λ total. figuresFrom ledger n) (ledgerOf ledger beside) g
+    (λ total. gives-among (10 ∷ []) numbers (both-of (among 10 numbers) ten) (figuresFrom ledger n) (drawn-gives ledger n some))
+  where
+    both-of : (b : Bool) → T b → T (both b true)
+    both-of true t = tt
+    both-of false t = t
+
 pub split-gives : (ledger : List ℕ) (n beside : ℕ) → Gives splitNumbers (splitOf ledger n beside)
-unfolding splitOf figuresFrom
+unfolding splitOf
 split-gives ledger n beside =
-    gives-after splitNumbers (figuresFrom ledger n) (ledgerOf ledger beside) (gives-among ledgerNumbers splitNumbers tt (ledgerOf ledger beside) (ledger-gives ledger beside))
-    (λ total. by-test (Gives splitNumbers) (eqb n 0) (λ z. tt)
-    (λ z. gives-among (10 ∷ []) splitNumbers tt (settledOf ledger (splitLines ledger n)) (settled-gives ledger n (eqb-false n 0 z))))
+    gives-after splitNumbers (λ total. figuresFrom ledger n) (ledgerOf ledger beside) (gives-among ledgerNumbers splitNumbers tt (ledgerOf ledger beside) (ledger-gives ledger beside))
+    (λ total. ⊎-elim
+    (λ (z : n ≡ 0). subst (Gives splitNumbers) (no-draws ledger n z) tt)
+    (λ some. gives-among (10 ∷ []) splitNumbers tt (figuresFrom ledger n) (drawn-gives ledger n some))
+    (eq-zero-or-pos n))

@@ -1,9 +1,9 @@
 -- The laws of the rounds: fewer lines are above J than there are draws, J never grows, as many rounds as draws are enough, a draw is always left, and
 -- the lines that left are those above the final J. Assumes nothing.
 use mathlib.Core.Path.{_≡_, refl, sym, ap, _∙_}
-use mathlib.Core.List.{List, [], _∷_}
+use mathlib.Core.List.{List}
 use mathlib.Core.Logic.{_⊎_, inl, inr, ⊎-elim}
-use Prim.Native.Nat.{ℕ, zero, suc, _+_, _-_, _*_, _/_, _≤_, _<_}
+use Prim.Native.Nat.{ℕ, zero, suc, _+_, _-_, _*_, _≤_, _<_}
 use native.Mathlib.Nat.{suc-mul, add-mul, sub-add-cancel, lt-div-mul-add, lt-of-mul-lt-mul-right, div-lt-iff-lt-mul, mul-comm}
 use native.Mathlib.Omega.{arith}
 use borrow.Author.Tests.{eq-eqb, ne-eqb}

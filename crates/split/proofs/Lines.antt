@@ -1,17 +1,15 @@
 -- The lines above a value and those that are not: lengths, sums and repeated parting. Assumes nothing.
-use mathlib.Core.Path.{_≡_, refl, sym, ap, _∙_}
+use mathlib.Core.Path.{_≡_, refl}
 use mathlib.Core.List.{List, [], _∷_}
 use mathlib.Core.Logic.{⊎-elim}
-use Prim.Native.Nat.{ℕ, zero, suc, _+_, _-_, _*_, _/_, _≤_, _<_}
-use native.Mathlib.Nat.{suc-mul, add-mul, sub-add-cancel, lt-div-mul-add, lt-of-mul-lt-mul-right, div-lt-iff-lt-mul, mul-comm, le-trans, lt-of-le-of-lt}
+use Prim.Native.Nat.{ℕ, suc, _+_, _*_, _≤_, _<_}
+use native.Mathlib.Nat.{suc-mul}
 use native.Mathlib.Omega.{arith}
 use borrow.Author.Tests.{le-ltb, lt-ltb, le-leb, lt-leb}
-use native.Mathlib.Numerals.{add-one}
-use lib.ListN.{length, getD, drop}
-use lib.Seq.{drop-cons}
+use lib.ListN.{length}
 use Rattle.terms.specs.Numbers.{sum}
 use Rattle.terms.proofs.Tests.{le-or-lt}
-use Rattle.split.specs.Rounds.{above, upTo, keep}
+use Rattle.split.specs.Rounds.{above, upTo}
 
 -- the parts' totals add to the whole
 pub sum-parts : (j : ℕ) (l : List ℕ) → sum (above j l) + sum (upTo j l) ≡ sum l
@@ -70,17 +68,6 @@ above-nothing j b (v ∷ l) h =
 -- a part's total is at most the whole's
 pub between-sum : (low high : ℕ) (l : List ℕ) → sum (above low (upTo high l)) ≤ sum l
 between-sum low high l = omega (arith, sum-parts low (upTo high l), sum-parts high l)
-
--- What a line of a list adds to those above low and not above high, as a loop meets it.
-module _ (low high : ℕ) (l : List ℕ) (i : ℕ) (inside : i < length l) where
-  pub between-in : low < getD l i 0 → getD l i 0 ≤ high → above low (upTo high (drop i l)) ≡ getD l i 0 ∷ above low (upTo high (drop (i + 1) l))
-  between-in p q = rw (drop-cons l i 0) (simp (le-leb _ _ q, lt-ltb _ _ p, add-one))
-
-  pub between-high : high < getD l i 0 → above low (upTo high (drop i l)) ≡ above low (upTo high (drop (i + 1) l))
-  between-high p = rw (drop-cons l i 0) (simp (lt-leb _ _ p, add-one))
-
-  pub between-low : getD l i 0 ≤ low → above low (upTo high (drop i l)) ≡ above low (upTo high (drop (i + 1) l))
-  between-low p = ⊎-elim (λ (q : getD l i 0 ≤ high). rw (drop-cons l i 0) (simp (le-leb _ _ q, le-ltb _ _ p, add-one))) between-high (le-or-lt (getD l i 0) high)
 
 -- no line above 0 remains where J is 0: nothing is sampled
 pub upTo-zero : (l : List ℕ) → sum (upTo 0 l) ≡ 0

@@ -2,13 +2,12 @@
 use mathlib.Core.Path.{_≡_, refl, sym, ap, ap₂, _∙_}
 use mathlib.Core.List.{List}
 use mathlib.Core.Logic.{⊎-elim}
-use Prim.Native.Nat.{ℕ, zero, suc, _+_, _-_, _/_, _≤_, _<_}
-use native.Mathlib.Numerals.{sub-one}
+use Prim.Native.Nat.{ℕ, zero, suc, _-_, _/_, _≤_, _<_}
 use native.Mathlib.Omega.{arith}
 use lib.ListN.{length}
 use Rattle.terms.specs.Numbers.{sum}
 use Rattle.terms.proofs.Tests.{le-or-lt}
-use Rattle.split.specs.Rounds.{above, upTo, fullOf, linesAfter, drawsAfter, intervalOf, Rest, rounds, splitLines}
+use Rattle.split.specs.Rounds.{above, upTo, fullOf, linesAfter, drawsAfter, intervalOf, rounds, splitLines}
 use Rattle.split.specs.Split.{sampled}
 use Rattle.split.specs.declared.Sampled.{Sampled}
 use Rattle.split.proofs.Lines.{sum-parts, upTo-upTo, above-nothing}
@@ -23,44 +22,43 @@ split-again : (l : List ℕ) (d : ℕ) → (d ≡ 0 → ⊥) → (length (fullOf
 split-again l zero w f = absurd (w refl)
 split-again l (suc d) w f = round-again d l (suc d) w f ∙ enough d (drawsAfter l (suc d)) (linesAfter l (suc d)) (drawsAfter l (suc d)) (omega arith) (omega arith)
 
--- at the entry: t is the total of the lines not above the bound b, with d draws
-pub record AtEntry (ledger : List ℕ) (b t d : ℕ) : Type 0 where
-  pub total : t ≡ sum (upTo b ledger)
-
-module _ {ledger : List ℕ} {b t d : ℕ} (at : AtEntry ledger b t d) where
-  pub rest-none : d ≡ 0 → record { interval = 0; «draws_left» = d; total = t } ≡ sampled (splitLines (upTo b ledger) d)
+-- t is the total of the lines not above the bound b, with d draws
+module _ (ledger : List ℕ) (b t d : ℕ) (total : t ≡ sum (upTo b ledger)) where
+  pub rest-spent : d ≡ 0 → record { interval = 0; «draws_left» = d; total = t } ≡ sampled (splitLines (upTo b ledger) d)
   unfolding rounds
-  rest-none e = rw e (λ i. record { interval = 0; «draws_left» = 0; total = at .total i })
+  rest-spent e = rw e (λ i. record { interval = 0; «draws_left» = 0; total = total i })
 
--- with a draw, where k lines, of the total s, are above the interval
-pub record AtFull (ledger : List ℕ) (b t d k s : ℕ) : Type 0 where
-  pub entry : AtEntry ledger b t d
-  pub some : d ≡ 0 → ⊥
-  pub many : k ≡ length (above (t / d) (upTo b ledger))
-  pub full : s ≡ sum (above (t / d) (upTo b ledger))
+  -- with a draw, where k lines are above the interval
+  module _ (k : ℕ) (some : d ≡ 0 → ⊥) (many : k ≡ length (above (t / d) (upTo b ledger))) where
+    many-full : k ≡ length (fullOf (upTo b ledger) d)
+    many-full = rw total at many
 
-module _ {ledger : List ℕ} {b t d k s : ℕ} (at : AtFull ledger b t d k s) where
-  count : k ≡ length (fullOf (upTo b ledger) d)
-  count = rw (at .entry .total) at (at .many)
+    pub rest-done : k ≡ 0 → record { interval = t / d; «draws_left» = d; total = t } ≡ sampled (splitLines (upTo b ledger) d)
+    rest-done e = rw (split-done (upTo b ledger) d some (sym many-full ∙ e)) (λ i. record { interval = total i / d; «draws_left» = d; total = total i })
 
-  pub rest-done : k ≡ 0 → record { interval = t / d; «draws_left» = d; total = t } ≡ sampled (splitLines (upTo b ledger) d)
-  rest-done e = rw (split-done (upTo b ledger) d (at .some) (sym count ∙ e)) (λ i. record { interval = at .entry .total i / d; «draws_left» = d; total = at .entry .total i })
+    fewer : k < d
+    fewer = let w = some in omega (arith, many-full, few (upTo b ledger) d (omega arith))
 
-  pub rest-few : k < d
-  rest-few = let w = at .some in omega (arith, count, few (upTo b ledger) d (omega arith))
+    pub rest-few : k ≤ d
+    rest-few = let f = fewer in omega arith
 
-  pub rest-fits : s ≤ t
-  rest-fits = omega (arith, sum-parts (t / d) (upTo b ledger))
+    pub rest-falls : (m : ℕ) → d ≡ m → (k ≡ 0 → ⊥) → d - k < m
+    rest-falls m e f = let w = fewer in omega arith
 
-  -- a line is above the interval, so the interval is below the bound, and parting by it alone is enough
-  again-lines : (k ≡ 0 → ⊥) → upTo (t / d) (upTo b ledger) ≡ upTo (t / d) ledger
-  again-lines f = ⊎-elim (λ (p : b ≤ t / d). absurd (f (at .many ∙ above-nothing (t / d) b ledger p))) (λ (p : t / d < b). upTo-upTo (t / d) b ledger (omega arith)) (le-or-lt b (t / d))
+    -- a line is above the interval, so the interval is below the bound, and parting by it alone is enough
+    again-lines : (k ≡ 0 → ⊥) → upTo (t / d) (upTo b ledger) ≡ upTo (t / d) ledger
+    again-lines f = ⊎-elim (λ (p : b ≤ t / d). absurd (f (many ∙ above-nothing (t / d) b ledger p))) (λ (p : t / d < b). upTo-upTo (t / d) b ledger (omega arith)) (le-or-lt b (t / d))
 
-  pub rest-total : (k ≡ 0 → ⊥) → t - s ≡ sum (upTo (t / d) ledger)
-  rest-total f = omega (arith, sum-parts (t / d) (upTo b ledger), ap sum (again-lines f))
+    pub rest-again : {r : Sampled} → (k ≡ 0 → ⊥) → r ≡ sampled (splitLines (upTo (t / d) ledger) (d - k)) → r ≡ sampled (splitLines (upTo b ledger) d)
+    rest-again f e =
+        let l : List ℕ = upTo b ledger in
+        let lines : linesAfter l d ≡ upTo (t / d) ledger = ap (λ (x : ℕ). upTo (x / d) l) (sym total) ∙ again-lines f in
+        e ∙ ap sampled (sym (split-again l d some (λ z. f (many-full ∙ z)) ∙ ap₂ (λ (x : List ℕ) (y : ℕ). splitLines x (d - y)) lines (sym many-full)))
 
-  pub rest-again : (k ≡ 0 → ⊥) → sampled (splitLines (upTo (t / d) ledger) (d - k)) ≡ sampled (splitLines (upTo b ledger) d)
-  rest-again f =
-      let l : List ℕ = upTo b ledger in
-      let lines : linesAfter l d ≡ upTo (t / d) ledger = ap (λ (x : ℕ). upTo (x / d) l) (sym (at .entry .total)) ∙ again-lines f in
-      ap sampled (sym (split-again l d (at .some) (λ z. f (count ∙ z)) ∙ ap₂ (λ (x : List ℕ) (y : ℕ). splitLines x (d - y)) lines (sym count)))
+    -- and s is their total
+    module _ (s : ℕ) (full : s ≡ sum (above (t / d) (upTo b ledger))) where
+      pub rest-fits : s ≤ t
+      rest-fits = omega (arith, sum-parts (t / d) (upTo b ledger))
+
+      pub rest-total : (k ≡ 0 → ⊥) → t - s ≡ sum (upTo (t / d) ledger)
+      rest-total f = omega (arith, sum-parts (t / d) (upTo b ledger), ap sum (again-lines f))

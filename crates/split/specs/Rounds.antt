@@ -1,4 +1,4 @@
--- The rounds of the split, on the list of the lines that remain. These are definitions: nothing is assumed.
+-- The rounds of the split, on the list of the lines that remain. Definitions: nothing is assumed.
 use Prim.Native.Nat.{ℕ, zero, suc, _-_, _/_}
 use mathlib.Core.List.{List, [], _∷_}
 use mathlib.Core.Bool.{Bool, true, false}

@@ -1,25 +1,21 @@
--- Step 2, the split: its answer for every ledger, number of draws and length of the marks, and the marks. These are definitions:
--- nothing is assumed.
+-- Step 2, the split: its answer for every ledger, number of draws and length of the marks, and the marks. Definitions: nothing is assumed.
 use Prim.Native.Nat.{ℕ, _≤_}
 use mathlib.Core.Path.{_≡_}
 use mathlib.Core.List.{List, map}
-use mathlib.Core.Bool.{Bool, true, false}
+use mathlib.Core.Bool.{Bool, false}
 use lib.ListN.{length}
 use lib.Dec.{ltb, eqb}
-use Rattle.terms.specs.Outcome.{Outcome, accepted, refused, refusedBy, after}
+use Rattle.terms.specs.Outcome.{Outcome, accepted, refused, refusedBy, after, left}
 use Rattle.terms.specs.Numbers.{pick, sum}
 use Rattle.terms.specs.Limits.{mostTotal, mostInterval}
 use Rattle.ledger.specs.Ledger.{ledgerOf}
 use Rattle.split.specs.Rounds.{above, Rest, splitLines}
-use Rattle.split.specs.declared.Figures.{Figures}
-use Rattle.split.specs.declared.Sampled.{Sampled}
-use Rattle.split.specs.declared.SplitAnswer.{SplitAnswer}
-use Rattle.split.specs.declared.SplitAnswer.the-variants.{Split, Refused}
+use Rattle.split.specs.declared.{Figures.Figures, Sampled.Sampled, SplitAnswer.SplitAnswer}
 
 -- what an answer says: the figures, or a refusal's number and place
 abbrev pub splitSays : SplitAnswer → Outcome Figures
-splitSays (Split figures) = accepted figures
-splitSays (Refused why) = refusedBy why
+splitSays (SplitAnswer.Split figures) = accepted figures
+splitSays (SplitAnswer.Refused why) = refusedBy why
 
 -- what the judgement of a ledger leaves to the split
 pub record Totalled (ledger : List ℕ) (total : ℕ) : Type 0 where
@@ -41,22 +37,25 @@ figuresOf ledger r =
       «full_total» = sum (above (r .interval) ledger);
     }
 
--- lines with value and no draws
-abbrev pub usedUp : Rest → Bool
-usedUp r = pick (eqb (r .draws) 0) (ltb 0 (sum (r .lines))) false
+-- 10 where the final J is above its maximum
+abbrev pub withinMost : Figures → Outcome Figures
+withinMost figures = pick (ltb mostInterval (figures .interval)) (refused 10 0) (accepted figures)
 
--- 9 where the rounds leave lines with value and no draws, 10 where the final J is above its maximum
-abbrev pub settledOf : List ℕ → Rest → Outcome Figures
-settledOf ledger r =
-    pick (usedUp r) (refused 9 0) (pick (ltb mostInterval (r .interval)) (refused 10 0) (accepted (figuresOf ledger r)))
+-- lines with value and no draws
+abbrev pub usedUp : Figures → Bool
+usedUp figures = pick (eqb (figures .«draws_left») 0) (ltb 0 (figures .«sampled_total»)) false
+
+-- 9 where the rounds leave lines with value and no draws
+abbrev pub settledOf : Figures → Outcome Figures
+settledOf figures = pick (usedUp figures) (refused 9 0) (withinMost figures)
 
 -- 8 where there are no draws
-unfoldable pub figuresFrom : List ℕ → ℕ → ℕ → Outcome Figures
-figuresFrom ledger n total = pick (eqb n 0) (refused 8 0) (settledOf ledger (splitLines ledger n))
+unfoldable pub figuresFrom : List ℕ → ℕ → Outcome Figures
+figuresFrom ledger n = pick (eqb n 0) (refused 8 0) (settledOf (figuresOf ledger (splitLines ledger n)))
 
 -- after the refusals of the ledger; `beside` is the length of the buffer that is lent with it
 unfoldable pub splitOf : List ℕ → ℕ → ℕ → Outcome Figures
-splitOf ledger n beside = after (figuresFrom ledger n) (ledgerOf ledger beside)
+splitOf ledger n beside = after (λ total. figuresFrom ledger n) (ledgerOf ledger beside)
 
 -- the marks: 2 for full, 0 for the others
 abbrev pub fullMark : ℕ → ℕ → ℕ
@@ -67,3 +66,12 @@ fullMarks J ledger = map (fullMark J) ledger
 
 abbrev pub marksOf : List ℕ → Figures → List ℕ
 marksOf ledger figures = fullMarks (figures .interval) ledger
+
+-- what `split_figures` promises: the answer
+pub record FiguresPromise (ledger : List ℕ) (n beside : ℕ) (r : SplitAnswer) : Type 0 where
+  pub answer : splitSays r ≡ splitOf ledger n beside
+
+-- what `split` promises: the answer, and the marks, which a refusal leaves
+pub record SplitPromise (ledger : List ℕ) (n : ℕ) (marks : List ℕ) (r : SplitAnswer) (marks′ : List ℕ) : Type 0 where
+  pub answer : splitSays r ≡ splitOf ledger n (length marks)
+  pub marks-left : marks′ ≡ left (marksOf ledger) marks (splitOf ledger n (length marks))

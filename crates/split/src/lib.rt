@@ -1,13 +1,14 @@
-// The split of a ledger into full lines and sampled lines: step 2.
+// The split of a ledger into full lines and sampled lines, step 2; and whether a start fits its interval.
 use ledger::LedgerAnswer;
+use terms::Cent;
 use terms::Refusal;
 ghost use mathlib.Core.Path.{_≡_};
 ghost use Prim.Native.Nat.{_<_, _^_};
 ghost use lib.ListN.{length};
 ghost use Rattle.terms.specs.Numbers.{sum};
-ghost use Rattle.terms.specs.Outcome.{left};
 ghost use Rattle.split.specs.Rounds.{above, upTo, splitLines};
-ghost use Rattle.split.specs.Split.{Totalled, splitSays, figuresFrom, splitOf, sampled, fullMarks, marksOf};
+ghost use Rattle.split.specs.Split.{Totalled, splitSays, sampled, figuresOf, withinMost, settledOf, figuresFrom, fullMarks, FiguresPromise, SplitPromise};
+ghost use Rattle.split.specs.Start.{startIn, figuresAt, FiguresForPromise};
 
 // The final interval and what it leaves: the draws, the sampled lines' total, the full lines and their total.
 pub struct Figures {
@@ -85,36 +86,62 @@ fn split_rest(ledger: &[u64], bound: u64, total: u64, draws: u64) -> Sampled
     split_rest(ledger, interval, rest, left)
 }
 
-// The split of a ledger whose judgement gave this total: 8, 9, 10, or the figures.
-pub fn split_total(ledger: &[u64], n: u64, total: u64) -> SplitAnswer
-    requires { ⌜ Totalled (now ledger) total ⌝ }
-    ensures { λ r. ⌜ splitSays r ≡ figuresFrom (now (ledger .entry)) n total ⌝ }
+// The figures of the rounds, whatever the interval and the draws left.
+pub fn figures_of(ledger: &[u64], n: u64, total: u64) -> Figures
+    requires { ⌜ Totalled (now ledger) total × (0 < n) ⌝ }
+    ensures { λ r. ⌜ r ≡ figuresOf (now (ledger .entry)) (splitLines (now (ledger .entry)) n) ⌝ }
 {
-    if n == 0 {
-        return SplitAnswer::Refused(Refusal::NoDraws);
-    }
     let rest = split_rest(ledger, total, total, n);
-    if rest.draws_left == 0 && rest.total > 0 {
-        return SplitAnswer::Refused(Refusal::DrawsUsedUp);
-    }
-    if rest.interval > terms::MOST_INTERVAL {
-        return SplitAnswer::Refused(Refusal::IntervalTooLarge);
-    }
     let full_lines = n - rest.draws_left;
     let full_total = total - rest.total;
-    SplitAnswer::Split(Figures {
+    Figures {
         interval: rest.interval,
         draws_left: rest.draws_left,
         sampled_total: rest.total,
         full_lines,
         full_total,
-    })
+    }
+}
+
+// The figures, or 10 where the final interval is above its maximum.
+fn within_most(figures: Figures) -> SplitAnswer
+    ensures { λ r. ⌜ splitSays r ≡ withinMost figures ⌝ }
+{
+    if figures.interval > terms::MOST_INTERVAL {
+        return SplitAnswer::Refused(Refusal::IntervalTooLarge);
+    }
+    SplitAnswer::Split(figures)
+}
+
+// The figures, or 9 where they leave lines with value and no draws, or 10.
+fn settled(figures: Figures) -> SplitAnswer
+    ensures { λ r. ⌜ splitSays r ≡ settledOf figures ⌝ }
+{
+    if figures.draws_left != 0 {
+        return within_most(figures);
+    }
+    if figures.sampled_total > 0 {
+        return SplitAnswer::Refused(Refusal::DrawsUsedUp);
+    }
+    within_most(figures)
+}
+
+// The split of a ledger whose judgement gave this total: 8, 9, 10, or the figures.
+pub fn split_total(ledger: &[u64], n: u64, total: u64) -> SplitAnswer
+    requires { ⌜ Totalled (now ledger) total ⌝ }
+    ensures { λ r. ⌜ splitSays r ≡ figuresFrom (now (ledger .entry)) n ⌝ }
+{
+    if n == 0 {
+        return SplitAnswer::Refused(Refusal::NoDraws);
+    }
+    let figures = figures_of(ledger, n, total);
+    settled(figures)
 }
 
 // The split without marks: what every step over a split ledger starts from. `beside` is the length of the buffer that is lent
 // with the ledger.
 pub fn split_figures(ledger: &[u64], n: u64, beside: usize) -> SplitAnswer
-    ensures { λ r. ⌜ splitSays r ≡ splitOf (now (ledger .entry)) n beside ⌝ }
+    ensures { λ r. ⌜ FiguresPromise (now (ledger .entry)) n beside r ⌝ }
 {
     match ledger::judge_ledger(ledger, beside) {
         LedgerAnswer::Refused(why) => SplitAnswer::Refused(why),
@@ -136,9 +163,7 @@ pub fn mark_full(ledger: &[u64], interval: u64, marks: &mut [u8])
 
 // The split: its answer, and the marks, which a refusal leaves as they were.
 pub fn split(ledger: &[u64], n: u64, marks: &mut [u8]) -> SplitAnswer
-    ensures answer { λ r. ⌜ splitSays r ≡ splitOf (now (ledger .entry)) n (length (now (marks .entry))) ⌝ }
-    ensures marked { λ r. ⌜ now (marks .exit)
-        ≡ left (marksOf (now (ledger .entry))) (now (marks .entry)) (splitOf (now (ledger .entry)) n (length (now (marks .entry)))) ⌝ }
+    ensures { λ r. ⌜ SplitPromise (now (ledger .entry)) n (now (marks .entry)) r (now (marks .exit)) ⌝ }
 {
     match split_figures(ledger, n, marks.len()) {
         SplitAnswer::Refused(why) => SplitAnswer::Refused(why),
@@ -146,5 +171,40 @@ pub fn split(ledger: &[u64], n: u64, marks: &mut [u8]) -> SplitAnswer
             mark_full(ledger, figures.interval, marks);
             SplitAnswer::Split(figures)
         }
+    }
+}
+
+// The figures, or 11 where the start does not fit their interval.
+pub fn start_in(start: Cent, figures: Figures) -> SplitAnswer
+    ensures { λ r. ⌜ splitSays r ≡ startIn (start .0) figures ⌝ }
+{
+    if start.0 < figures.interval {
+        return SplitAnswer::Split(figures);
+    }
+    if start.0 > 0 {
+        return SplitAnswer::Refused(Refusal::StartOutOfRange);
+    }
+    SplitAnswer::Split(figures)
+}
+
+// The figures for a start, from a ledger whose judgement gave this total: 8, 9, 10, 11.
+pub fn figures_at(ledger: &[u64], n: u64, start: Cent, total: u64) -> SplitAnswer
+    requires { ⌜ Totalled (now ledger) total ⌝ }
+    ensures { λ r. ⌜ splitSays r ≡ figuresAt (now (ledger .entry)) n (start .0) ⌝ }
+{
+    match split_total(ledger, n, total) {
+        SplitAnswer::Refused(why) => SplitAnswer::Refused(why),
+        SplitAnswer::Split(figures) => start_in(start, figures),
+    }
+}
+
+// The split's figures, or 11: what the draw and the projection start from. `beside` is the length of the buffer that is lent
+// with the ledger.
+pub fn figures_for(ledger: &[u64], n: u64, start: Cent, beside: usize) -> SplitAnswer
+    ensures { λ r. ⌜ FiguresForPromise (now (ledger .entry)) n (start .0) beside r ⌝ }
+{
+    match split_figures(ledger, n, beside) {
+        SplitAnswer::Refused(why) => SplitAnswer::Refused(why),
+        SplitAnswer::Split(figures) => start_in(start, figures),
     }
 }

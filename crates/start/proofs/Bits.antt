@@ -1,5 +1,5 @@
 -- The number of bits needed to write a number: it is the least, and 64 less the leading zeros give it. Assumes nothing.
-use mathlib.Core.Path.{_≡_, refl, sym, ap, _∙_, subst}
+use mathlib.Core.Path.{_≡_, refl, ap, _∙_, subst}
 use mathlib.Core.Bool.{Bool, true, false}
 use Prim.Native.Nat.{ℕ, zero, suc, _+_, _-_, _*_, _%_, _^_, _≤_, _<_}
 use native.Mathlib.Nat.{le-antisymm, pow-suc, one-mul}
@@ -7,7 +7,7 @@ use native.Mathlib.Omega.{arith}
 use native.Mathlib.Decide.{decLe}
 use lib.Dec.{ltb, lit<}
 use lib.Pow.{pow-mono, shl-exact}
-use lib.Count.{leadingZeros, leading-le, leading-length}
+use lib.Count.{leadingZeros, leading-length}
 use borrow.Author.Tests.{ltb-true, ltb-false}
 use Rattle.terms.specs.Numbers.{pick}
 use Rattle.terms.specs.Limits.{mostInterval}

@@ -7,8 +7,8 @@ use native.Mathlib.Nat.{add-zero}
 use native.Mathlib.Omega.{arith}
 use lib.Dec.{ltb, leb}
 use lib.ListN.{length}
-use borrow.Author.Tests.{le-ltb, lt-leb, ltb-true, ltb-false, leb-true, leb-false}
-use Rattle.terms.specs.Outcome.{Outcome, accepted, refused}
+use borrow.Author.Tests.{le-ltb, lt-leb, ltb-true, ltb-false, leb-false}
+use Rattle.terms.specs.Outcome.{accepted, refused}
 use Rattle.terms.specs.Numbers.{pick}
 use Rattle.terms.specs.Limits.{mostInterval}
 use Rattle.terms.proofs.Outcomes.{never, Gives}

@@ -1,7 +1,7 @@
 -- Starts by computation: the desk's worked example, no interval, an interval of one cent, a power of two and one more, the widest
 -- interval and one cent more. Assumes nothing.
 use mathlib.Core.Path.{_≡_, refl}
-use mathlib.Core.List.{List, [], _∷_}
+use mathlib.Core.List.{[], _∷_}
 use Rattle.terms.specs.Outcome.{accepted, refused}
 use Rattle.start.specs.Start.{tried, firstFrom, startOf}
 

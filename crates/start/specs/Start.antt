@@ -1,18 +1,17 @@
--- Step 3, the random start: its answer for every interval and words. These are definitions: nothing is assumed.
+-- Step 3, the random start: its answer for every interval and words. Definitions: nothing is assumed.
+use mathlib.Core.Path.{_≡_}
 use Prim.Native.Nat.{ℕ, zero, suc, _-_, _%_, _^_}
 use mathlib.Core.List.{List, [], _∷_}
 use lib.Dec.{ltb, leb}
 use Rattle.terms.specs.Outcome.{Outcome, accepted, refused, refusedBy}
 use Rattle.terms.specs.Numbers.{pick}
 use Rattle.terms.specs.Limits.{mostInterval}
-use Rattle.start.specs.declared.Chosen.{Chosen}
-use Rattle.start.specs.declared.StartAnswer.{StartAnswer}
-use Rattle.start.specs.declared.StartAnswer.the-variants.{Started, Refused}
+use Rattle.start.specs.declared.{Chosen.Chosen, StartAnswer.StartAnswer}
 
 -- what an answer says: the start and the words read, or a refusal's number and place
 abbrev pub startSays : StartAnswer → Outcome Chosen
-startSays (Started chosen) = accepted chosen
-startSays (Refused why) = refusedBy why
+startSays (StartAnswer.Started chosen) = accepted chosen
+startSays (StartAnswer.Refused why) = refusedBy why
 
 -- the least w from `from` on with n < 2 ^ w, in so many tries; n is below 2 ^ n, so n tries from 0 on are enough
 unfoldable pub tried : ℕ → ℕ → ℕ → ℕ
@@ -35,3 +34,7 @@ firstFrom J range read (word ∷ words) =
 unfoldable pub startOf : ℕ → List ℕ → Outcome Chosen
 startOf J words =
     pick (ltb mostInterval J) (refused 10 0) (pick (leb J 1) (accepted (record { start = 0; words = 0 })) (firstFrom J (2 ^ bits (J - 1)) 0 words))
+
+-- what `start` promises of an interval, the words and the answer
+pub record StartPromise (J : ℕ) (words : List ℕ) (r : StartAnswer) : Type 0 where
+  pub answer : startSays r ≡ startOf J words

@@ -1,6 +1,6 @@
--- What it means that every start is as likely as every other, and that no word passes. These are definitions: nothing is assumed.
+-- What it means that every start is as likely as every other, and that no word passes. Definitions: nothing is assumed.
 use Prim.Native.Nat.{ℕ, zero, suc, _+_, _-_, _%_, _^_, _≤_}
-use mathlib.Core.Bool.{Bool, true, false}
+use mathlib.Core.Bool.{Bool, false}
 use mathlib.Core.List.{List, [], _∷_}
 use lib.Dec.{eqb}
 use Rattle.terms.specs.Outcome.{Outcome, accepted, refused}

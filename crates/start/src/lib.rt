@@ -3,7 +3,7 @@ use terms::Refusal;
 ghost use mathlib.Core.Path.{_≡_};
 ghost use Prim.Native.Nat.{_-_, _^_, _<_, _≤_};
 ghost use Rattle.terms.specs.Limits.{mostInterval};
-ghost use Rattle.start.specs.Start.{bits, firstFrom, startSays, startOf};
+ghost use Rattle.start.specs.Start.{bits, firstFrom, startSays, StartPromise};
 
 // The start, and the count of words read, the accepted one included.
 pub struct Chosen {
@@ -48,7 +48,7 @@ fn first_below(interval: u64, range: u64, words: &[u64]) -> StartAnswer
 
 // The random start below an interval, from lent words in their order.
 pub fn start(interval: u64, words: &[u64]) -> StartAnswer
-    ensures { λ r. ⌜ startSays r ≡ startOf interval (now (words .entry)) ⌝ }
+    ensures { λ r. ⌜ StartPromise interval (now (words .entry)) r ⌝ }
 {
     if interval > terms::MOST_INTERVAL {
         return StartAnswer::Refused(Refusal::IntervalTooLarge);

@@ -1,17 +1,15 @@
--- The contract leaves no freedom: any two answers that meet it agree. And which refusals the steps give on the content of a legal file.
+-- The promise leaves no freedom: any two answers that meet it agree. And which refusals the steps give on the content of a legal file.
 -- Assumes nothing.
 use Prim.Native.Nat.{ℕ, _≤_, _<_}
 use native.Mathlib.Omega.{arith}
-use mathlib.Core.Path.{_≡_, refl, sym, ap, subst, _∙_}
+use mathlib.Core.Path.{_≡_, refl, sym, ap, _∙_}
 use mathlib.Core.List.{List, [], _∷_}
 use mathlib.Core.Logic.{⊎-elim}
-use borrow.Author.Tests.{eqb-true, eqb-false}
-use lib.Dec.{eqb}
 use lib.ListN.{length}
 use Rattle.terms.specs.Outcome.{Outcome, accepted, refused, after}
 use Rattle.terms.proofs.Answers.{Made, good, bad, one-answer}
 use Rattle.terms.proofs.Outcomes.{Gives, gives-after, gives-among}
-use Rattle.terms.proofs.Tests.{by-test, le-or-lt}
+use Rattle.terms.proofs.Tests.{le-or-lt}
 use Rattle.factors.specs.Levels.{levelOf}
 use Rattle.factors.proofs.Percents.{level-gives}
 use Rattle.ledger.specs.Ledger.{ledgerOf}
@@ -19,17 +17,15 @@ use Rattle.ledger.proofs.Laws.{valueNumbers, values-give}
 use Rattle.size.specs.Size.{sizeOf}
 use Rattle.size.proofs.Laws.{at-least-one, sizeNumbers, size-gives}
 use Rattle.split.specs.declared.Figures.{Figures}
-use Rattle.split.specs.Rounds.{splitLines}
-use Rattle.split.specs.Split.{settledOf, figuresFrom, splitOf}
-use Rattle.split.proofs.Facts.{settled-gives}
+use Rattle.split.specs.Split.{splitOf}
+use Rattle.split.specs.Start.{figuresFor}
+use Rattle.split.proofs.Facts.{split-with-draws}
+use Rattle.split.proofs.Start.{start-accepted, start-zero}
 use Rattle.start.specs.declared.Chosen.{Chosen}
 use Rattle.start.specs.Start.{startOf}
 use Rattle.start.proofs.Laws.{within, no-interval, startNumbers, start-gives}
-use Rattle.draw.specs.Draw.{figuresFor}
-use Rattle.draw.proofs.Answer.{from-split, start-none}
-use Rattle.draw.proofs.Laws.{start-accepted}
-use Rattle.judge.specs.Judge.{judgedAt, judgedFigures, outOfRange, judgedTotal, judgedLedger, judgeOf}
-use Rattle.judge.proofs.Laws.{lastNumbers, lines-give}
+use Rattle.judge.specs.Judge.{judgeOf}
+use Rattle.judge.proofs.Laws.{judge-started}
 use Rattle.workfile.specs.declared.Plan.{Plan}
 use Rattle.workfile.specs.Content.{Content, mostFileLines}
 use Rattle.workfile.specs.Decode.{decode}
@@ -37,15 +33,14 @@ use Rattle.workfile.proofs.OneFile.{read-counts}
 use Rattle.steps.specs.declared.Planned.{Planned}
 use Rattle.steps.specs.declared.StepsAnswer.{StepsAnswer}
 use Rattle.steps.specs.declared.StepsAnswer.the-variants.{Answered, Refused}
-use Rattle.steps.specs.Steps.{stepsSays, plannedWith, answersWith, judgedFrom, startedFrom, splitFrom, sizedFrom, totalledFrom, stepsOf}
+use Rattle.steps.specs.Steps.{stepsSays, StepsPromise, plannedWith, answersWith, judgedFrom, startedFrom, splitFrom, sizedFrom, totalledFrom, stepsOf}
 
 made : (r : StepsAnswer) → Made Answered Refused r
 made (Answered a) = good a
 made (Refused why) = bad why
 
-pub steps-once : (plan : Plan) (words ledger errors : List ℕ) {r₁ r₂ : StepsAnswer} → stepsSays r₁ ≡ stepsOf plan words ledger errors →
-    stepsSays r₂ ≡ stepsOf plan words ledger errors → r₁ ≡ r₂
-steps-once plan words ledger errors {r₁} {r₂} p q = one-answer stepsSays Answered Refused (λ a. refl) (λ why. refl) made r₁ r₂ p q
+pub steps-once : {plan : Plan} {words ledger errors : List ℕ} {r₁ r₂ : StepsAnswer} → StepsPromise plan words ledger errors r₁ → StepsPromise plan words ledger errors r₂ → r₁ ≡ r₂
+steps-once {r₁ = r₁} {r₂ = r₂} p q = one-answer stepsSays Answered Refused (λ a. refl) (λ why. refl) made r₁ r₂ (p .answer) (q .answer)
 
 -- a step that starts with another gives what either gives, the second from what the first has accepted
 gives-then : {A B : Type 0} (numbers : List ℕ) (next : A → Outcome B) (o : Outcome A) → Gives numbers o → ((a : A) → o ≡ accepted a → Gives numbers (next a)) →
@@ -68,7 +63,7 @@ start-fits words ledger n beside f s split started =
     (λ (h : f .interval ≤ 0).
     let none : f .interval ≡ 0 = omega arith in
     let first : s .start ≡ 0 = no-interval words s (sym (ap (λ (j : ℕ). startOf j words) none) ∙ started) in
-    sym (start-none (s .start) f (omega arith) (omega arith) ∙ from-split ledger n (s .start) beside (sym split)))
+    start-zero ledger n (s .start) beside f split (omega arith) (omega arith))
     (λ (h : 0 < f .interval). start-accepted ledger n (s .start) beside f split (within (f .interval) words s (omega arith) started))
     (le-or-lt (f .interval) 0)
 
@@ -76,31 +71,18 @@ module _ (ledger errors : List ℕ) (few : length ledger ≤ mostFileLines) (sam
   ledger-known : Gives stepsNumbers (ledgerOf ledger (length errors))
   ledger-known = gives-among valueNumbers stepsNumbers tt (ledgerOf ledger (length errors)) (values-give ledger (length errors) (omega arith) same)
 
-  split-known : (n : ℕ) → 1 ≤ n → Gives stepsNumbers (splitOf ledger n (length errors))
-  unfolding splitOf figuresFrom
-  split-known n some =
-      gives-after stepsNumbers (figuresFrom ledger n) (ledgerOf ledger (length errors)) ledger-known
-      (λ total. by-test (Gives stepsNumbers) (eqb n 0) (λ z. let none = eqb-true n 0 z in absurd (omega arith))
-      (λ z. gives-among (10 ∷ []) stepsNumbers tt (settledOf ledger (splitLines ledger n)) (settled-gives ledger n (eqb-false n 0 z))))
-
   judged-gives : (p : Planned) (f : Figures) (s : Chosen) → figuresFor ledger (p .draws) (s .start) (length errors) ≡ accepted f →
       Gives stepsNumbers (judgedFrom p ledger errors f s)
-  unfolding judgedFrom judgeOf judgedLedger judgedFigures
+  unfolding judgedFrom
   judged-gives p f s fits =
       gives-after stepsNumbers (λ judgement. accepted (answersWith p f s judgement)) (judgeOf (p .level) ledger (p .draws) (s .start) errors (p .te))
-      (gives-after stepsNumbers (judgedLedger ledger (p .draws) (s .start) errors (p .te)) (levelOf (p .level)) (level-known (p .level))
-      (λ level. gives-after stepsNumbers (judgedTotal level ledger (p .draws) (s .start) errors (p .te)) (ledgerOf ledger (length errors)) ledger-known
-      (λ total. by-test (Gives stepsNumbers) (outOfRange (p .te) total) (λ t. tt)
-      (λ t. gives-after stepsNumbers (λ figures. judgedAt level ledger (s .start) errors (p .te) (figures .interval))
-      (figuresFor ledger (p .draws) (s .start) (length errors)) (subst (λ (o : Outcome Figures). Gives stepsNumbers o) (sym fits) tt)
-      (λ figures. gives-among lastNumbers stepsNumbers tt (judgedAt level ledger (s .start) errors (p .te) (figures .interval))
-      (lines-give level ledger (p .draws) (s .start) errors (p .te) (figures .interval)))))))
-      (λ judgement. tt)
+      (judge-started stepsNumbers (p .level) ledger (p .draws) (s .start) errors (p .te) f fits tt ledger-known) (λ judgement. tt)
 
   split-gives : (p : Planned) (words : List ℕ) → 1 ≤ p .draws → Gives stepsNumbers (splitFrom p words ledger errors)
   unfolding splitFrom startedFrom
   split-gives p words some =
-      gives-then stepsNumbers (startedFrom p words ledger errors) (splitOf ledger (p .draws) (length errors)) (split-known (p .draws) some)
+      gives-then stepsNumbers (startedFrom p words ledger errors) (splitOf ledger (p .draws) (length errors))
+      (split-with-draws stepsNumbers ledger (p .draws) (length errors) some tt ledger-known)
       (λ f split. gives-then stepsNumbers (judgedFrom p ledger errors f) (startOf (f .interval) words)
       (gives-among startNumbers stepsNumbers tt (startOf (f .interval) words) (start-gives (f .interval) words))
       (λ s started. judged-gives p f s (start-fits words ledger (p .draws) (length errors) f s split started)))

@@ -1,10 +1,10 @@
--- The steps in the desk program's order, from the content of a working file: each after the refusals of those before it.
--- These are definitions: nothing is assumed.
+-- The steps in the desk program's order, from a file's content: each after the refusals of those before it. Definitions: nothing is assumed.
 use Prim.Native.Nat.{ℕ, _≤_, _<_}
 use mathlib.Core.Path.{_≡_}
 use mathlib.Core.List.{List}
 use lib.ListN.{length, getD}
-use Rattle.terms.specs.Limits.{mostInterval}
+use Rattle.terms.specs.Limits.{mostLines, mostTotal, mostInterval}
+use Rattle.terms.specs.Numbers.{sum}
 use Rattle.terms.specs.Outcome.{Outcome, accepted, refusedBy, after}
 use Rattle.factors.specs.Levels.{levelOf}
 use Rattle.ledger.specs.Ledger.{ledgerOf}
@@ -16,15 +16,12 @@ use Rattle.start.specs.Start.{startOf}
 use Rattle.judge.specs.declared.Judgement.{Judgement}
 use Rattle.judge.specs.Judge.{judgeOf}
 use Rattle.workfile.specs.declared.Plan.{Plan}
-use Rattle.steps.specs.declared.Planned.{Planned}
-use Rattle.steps.specs.declared.Answers.{Answers}
-use Rattle.steps.specs.declared.StepsAnswer.{StepsAnswer}
-use Rattle.steps.specs.declared.StepsAnswer.the-variants.{Answered, Refused}
+use Rattle.steps.specs.declared.{Planned.Planned, Answers.Answers, StepsAnswer.StepsAnswer}
 
 -- what the steps' answer says: every figure of the sheet, or a refusal's number and place
 abbrev pub stepsSays : StepsAnswer → Outcome Answers
-stepsSays (Answered answers) = accepted answers
-stepsSays (Refused why) = refusedBy why
+stepsSays (StepsAnswer.Answered answers) = accepted answers
+stepsSays (StepsAnswer.Refused why) = refusedBy why
 
 -- the plan with the ledger's total and the number of draws
 abbrev pub plannedWith : Plan → ℕ → ℕ → Planned
@@ -60,8 +57,14 @@ totalledFrom plan words ledger errors = after (sizedFrom plan words ledger error
 unfoldable pub stepsOf : Plan → List ℕ → List ℕ → List ℕ → Outcome Answers
 stepsOf plan words ledger errors = after (λ level. totalledFrom plan words ledger errors) (levelOf (plan .level))
 
+-- what `steps` promises: the answer
+pub record StepsPromise (plan : Plan) (words ledger errors : List ℕ) (r : StepsAnswer) : Type 0 where
+  pub answer : stepsSays r ≡ stepsOf plan words ledger errors
+
 -- what steps that accept have shown of the interval and the lines
-pub record Passed (J : ℕ) (ledger errors : List ℕ) : Type 0 where
+pub record Shown (J : ℕ) (ledger errors : List ℕ) : Type 0 where
   pub narrow : J ≤ mostInterval
+  pub few : length ledger ≤ mostLines
+  pub summed : sum ledger ≤ mostTotal
   pub same : length errors ≡ length ledger
   pub within : (item : ℕ) → item < length ledger → getD errors item 0 ≤ getD ledger item 0

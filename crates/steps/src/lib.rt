@@ -11,7 +11,7 @@ use start::StartAnswer;
 use terms::Refusal;
 use workfile::Plan;
 ghost use mathlib.Core.Path.{_≡_};
-ghost use Rattle.steps.specs.Steps.{stepsSays, judgedFrom, startedFrom, splitFrom, sizedFrom, totalledFrom, stepsOf};
+ghost use Rattle.steps.specs.Steps.{stepsSays, judgedFrom, startedFrom, splitFrom, sizedFrom, totalledFrom, StepsPromise};
 
 // The plan, with the ledger's total and the number of draws.
 pub struct Planned {
@@ -120,7 +120,7 @@ fn totalled(plan: Plan, words: &[u64], ledger: &[u64], errors: &[u64]) -> StepsA
 
 // All steps, from the level on: 1.
 pub fn steps(plan: Plan, words: &[u64], ledger: &[u64], errors: &[u64]) -> StepsAnswer
-    ensures { λ r. ⌜ stepsSays r ≡ stepsOf plan (now (words .entry)) (now (ledger .entry)) (now (errors .entry)) ⌝ }
+    ensures { λ r. ⌜ StepsPromise plan (now (words .entry)) (now (ledger .entry)) (now (errors .entry)) r ⌝ }
 {
     match factors::level_of(plan.level) {
         LevelAnswer::Refused(why) => StepsAnswer::Refused(why),

@@ -1,5 +1,5 @@
 -- A test that antt computes over a whole table, or over every number below a bound, holds at each entry. Assumes nothing.
-use mathlib.Core.Path.{_≡_, _∙_, subst, sym}
+use mathlib.Core.Path.{_∙_, subst, sym}
 use mathlib.Core.Bool.{Bool, true, false}
 use mathlib.Core.Logic.{⊎-elim}
 use mathlib.Core.List.{List, [], _∷_}

@@ -5,7 +5,7 @@ use Prim.Native.Nat.{ℕ, zero, suc, _+_, _≤_, _<_}
 use native.Mathlib.Numerals.{add-one}
 use native.Mathlib.Omega.{arith}
 use lib.ListN.{length, getD, take, set, length-map}
-use lib.Seq.{take-suc, take-suc-set, take-all, take-length}
+use lib.Seq.{take-suc, take-suc-set, take-all}
 
 module _ (f : ℕ → ℕ) where
   getD-of : (l : List ℕ) (i : ℕ) → i < length l → getD (map f l) i 0 ≡ f (getD l i 0)

@@ -1,14 +1,13 @@
 -- Outcomes: an accepted call is no refused one, what a step that starts with another was accepted from, which refusals it gives,
 -- and that a number and a place name one refusal. Assumes nothing.
-use mathlib.Core.Path.{_≡_, refl, sym, subst, _∙_}
+use mathlib.Core.Path.{_≡_, refl, sym, ap, subst, _∙_}
 use mathlib.Core.List.{List, [], _∷_}
 use mathlib.Core.Bool.{Bool, true, false}
-use Prim.Native.Nat.{ℕ, zero, suc}
+use Prim.Native.Nat.{ℕ, zero, suc, _<_}
 use native.Mathlib.Omega.{arith}
 use lib.Dec.{T, eqb}
 use borrow.Author.Tests.{eqb-true}
 use Rattle.terms.specs.declared.Refusal.{Refusal}
-use Rattle.terms.specs.declared.Refusal.the-variants.{UnknownLevel, TooManyLines, ValueTooLarge, TotalTooLarge, TotalZero, ToleranceOutOfRange, ToleranceSpent, NoDraws, DrawsUsedUp, IntervalTooLarge, StartOutOfRange, NoWordPasses, LengthsDiffer, ErrorAboveValue, ErrorNotDrawn, TooManyErrors, FileBreaksRule, RoomTooShort, NoLegalFile}
 use Rattle.terms.specs.Refusals.{number, place}
 use Rattle.terms.specs.Numbers.{pick}
 use Rattle.terms.proofs.Every.{both, both-left, both-right}
@@ -55,42 +54,54 @@ pub gives-among : {A : Type 0} (numbers more : List ℕ) → T (allAmong numbers
 gives-among numbers more a (accepted x) g = tt
 gives-among numbers more a (refused k p) g = among-all k numbers more a g
 
--- the refusals in the order of their numbers, each at place p
+-- the refusals in the order of their numbers, each at place p; any stands where no refusal has the number
 listed : ℕ → List Refusal
 listed p =
-    NoLegalFile ∷ UnknownLevel ∷ TooManyLines ∷ ValueTooLarge p ∷ TotalTooLarge p ∷ TotalZero ∷ ToleranceOutOfRange ∷ ToleranceSpent ∷ NoDraws ∷ DrawsUsedUp ∷ IntervalTooLarge ∷ StartOutOfRange ∷ NoWordPasses p ∷ LengthsDiffer ∷ ErrorAboveValue p ∷ ErrorNotDrawn p ∷ TooManyErrors ∷ FileBreaksRule p ∷ RoomTooShort p ∷ NoLegalFile ∷ []
+    Refusal.NoLegalFile ∷ Refusal.UnknownLevel ∷ Refusal.TooManyLines ∷ Refusal.ValueTooLarge p ∷ Refusal.TotalTooLarge p ∷
+    Refusal.TotalZero ∷ Refusal.ToleranceOutOfRange ∷ Refusal.ToleranceSpent ∷ Refusal.NoDraws ∷ Refusal.DrawsUsedUp ∷
+    Refusal.IntervalTooLarge ∷ Refusal.StartOutOfRange ∷ Refusal.NoWordPasses p ∷ Refusal.LengthsDiffer ∷ Refusal.ErrorAboveValue p ∷
+    Refusal.ErrorNotDrawn p ∷ Refusal.TooManyErrors ∷ Refusal.FileBreaksRule p ∷ Refusal.RoomTooShort p ∷ Refusal.NoLegalFile ∷ []
 
 entry : List Refusal → ℕ → Refusal
-entry [] k = NoLegalFile
+entry [] k = Refusal.NoLegalFile
 entry (r ∷ l) zero = r
 entry (r ∷ l) (suc k) = entry l k
 
 -- a refusal is found again by its number and its place
 found : (r : Refusal) → entry (listed (place r)) (number r) ≡ r
 unfolding entry listed
-found UnknownLevel = refl
-found TooManyLines = refl
-found (ValueTooLarge line) = refl
-found (TotalTooLarge line) = refl
-found TotalZero = refl
-found ToleranceOutOfRange = refl
-found ToleranceSpent = refl
-found NoDraws = refl
-found DrawsUsedUp = refl
-found IntervalTooLarge = refl
-found StartOutOfRange = refl
-found (NoWordPasses words) = refl
-found LengthsDiffer = refl
-found (ErrorAboveValue line) = refl
-found (ErrorNotDrawn line) = refl
-found TooManyErrors = refl
-found (FileBreaksRule byte) = refl
-found (RoomTooShort needed) = refl
-found NoLegalFile = refl
+found Refusal.UnknownLevel = refl
+found Refusal.TooManyLines = refl
+found (Refusal.ValueTooLarge line) = refl
+found (Refusal.TotalTooLarge line) = refl
+found Refusal.TotalZero = refl
+found Refusal.ToleranceOutOfRange = refl
+found Refusal.ToleranceSpent = refl
+found Refusal.NoDraws = refl
+found Refusal.DrawsUsedUp = refl
+found Refusal.IntervalTooLarge = refl
+found Refusal.StartOutOfRange = refl
+found (Refusal.NoWordPasses words) = refl
+found Refusal.LengthsDiffer = refl
+found (Refusal.ErrorAboveValue line) = refl
+found (Refusal.ErrorNotDrawn line) = refl
+found Refusal.TooManyErrors = refl
+found (Refusal.FileBreaksRule byte) = refl
+found (Refusal.RoomTooShort needed) = refl
+found Refusal.NoLegalFile = refl
 
 -- so no two refusals share both
 pub one-refusal : (r s : Refusal) → number r ≡ number s → place r ≡ place s → r ≡ s
 one-refusal r s n p = sym (found r) ∙ (λ i. entry (listed (p i)) (n i)) ∙ found s
+
+-- and no refusal has the number 0, so that 0 can say that there is none
+pub number-some : (why : Refusal) → 0 < number why
+unfolding entry listed
+number-some why = go (number why) refl (found why)
+  where
+    go : (n : ℕ) → number why ≡ n → entry (listed (place why)) n ≡ why → 0 < n
+    go zero z e = absurd (omega (arith, ap number e))
+    go (suc n) z e = omega arith
 
 pub refused-once : {A : Type 0} (r s : Refusal) → refusedBy {A = A} r ≡ refusedBy s → r ≡ s
 refused-once r s e =

@@ -1,8 +1,14 @@
 -- Division rounded up: the least number whose multiple is enough. Assumes nothing.
-use Prim.Native.Nat.{ℕ, suc, _+_, _*_, _-_, _/_, _≤_, _<_}
+use mathlib.Core.Path.{_≡_, refl}
+use Prim.Native.Nat.{ℕ, _+_, _*_, _-_, _/_, _≤_, _<_}
 use native.Mathlib.Nat.{le-div-iff-mul-le, suc-mul, le-of-suc-le-suc, lt-of-not-le}
 use native.Mathlib.Omega.{arith}
 use Rattle.terms.specs.Numbers.{divUp}
+
+-- as code computes it
+pub divUp-is : (a b : ℕ) → (a + (b - 1)) / b ≡ divUp a b
+unfolding divUp
+divUp-is a b = refl
 
 module _ (k x b : ℕ) (some : 0 < b) where
   -- k is below x / b rounded up exactly when k * b is below x

@@ -1,4 +1,4 @@
--- The sizes of document 01. These are definitions: nothing is assumed.
+-- The sizes of document 01. Definitions: nothing is assumed.
 use Prim.Native.Nat.{ℕ}
 
 abbrev pub mostLines : ℕ

@@ -1,4 +1,4 @@
--- A choice by a test, division rounded up, the sum of a list, and a bound on its numbers. These are definitions: nothing is assumed.
+-- A choice by a test, division rounded up, the sum of a list, and a bound on its numbers. Definitions: nothing is assumed.
 use Prim.Native.Nat.{ℕ, _+_, _-_, _/_, _≤_}
 use mathlib.Core.Bool.{Bool, true, false}
 use mathlib.Core.List.{List, [], _∷_}

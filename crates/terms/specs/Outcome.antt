@@ -1,7 +1,6 @@
--- What an operation answers, in document 01's terms: the values of an accepted call, or the number and the place of a refusal.
--- Every public promise is stated with it. These are definitions: nothing is assumed.
+-- What an operation answers, in document 01's terms: the values of an accepted call, or the number and the place of a refusal. The numbers are those
+-- of document 01's table: a text's faults are none of them and have an outcome of their own (crate notation). Definitions: nothing is assumed.
 use Prim.Native.Nat.{ℕ}
-use mathlib.Core.List.{List}
 use Rattle.terms.specs.declared.Refusal.{Refusal}
 use Rattle.terms.specs.Refusals.{number, place}
 

@@ -1,46 +1,35 @@
--- The number and the place of each refusal, as document 01's table has them. These are definitions: nothing is assumed.
+-- The number and the place of each refusal, as document 01's table has them. Definitions: nothing is assumed.
 use Prim.Native.Nat.{ℕ}
-use Rattle.terms.specs.declared.Refusal.{Refusal}
-use Rattle.terms.specs.declared.Refusal.the-variants.{UnknownLevel, TooManyLines, ValueTooLarge, TotalTooLarge, TotalZero, ToleranceOutOfRange, ToleranceSpent, NoDraws, DrawsUsedUp, IntervalTooLarge, StartOutOfRange, NoWordPasses, LengthsDiffer, ErrorAboveValue, ErrorNotDrawn, TooManyErrors, FileBreaksRule, RoomTooShort, NoLegalFile}
+use Rattle.terms.specs.declared.{Refusal.Refusal, Told.Told}
+
+-- a row of the table: a number and a place
+abbrev pub row : ℕ → ℕ → Told
+row number place = record { number = number; place = place }
+
+-- what a refusal tells: its number and its place
+abbrev pub tells : Refusal → Told
+tells Refusal.UnknownLevel = row 1 0
+tells Refusal.TooManyLines = row 2 0
+tells (Refusal.ValueTooLarge line) = row 3 line
+tells (Refusal.TotalTooLarge line) = row 4 line
+tells Refusal.TotalZero = row 5 0
+tells Refusal.ToleranceOutOfRange = row 6 0
+tells Refusal.ToleranceSpent = row 7 0
+tells Refusal.NoDraws = row 8 0
+tells Refusal.DrawsUsedUp = row 9 0
+tells Refusal.IntervalTooLarge = row 10 0
+tells Refusal.StartOutOfRange = row 11 0
+tells (Refusal.NoWordPasses words) = row 12 words
+tells Refusal.LengthsDiffer = row 13 0
+tells (Refusal.ErrorAboveValue line) = row 14 line
+tells (Refusal.ErrorNotDrawn line) = row 15 line
+tells Refusal.TooManyErrors = row 16 0
+tells (Refusal.FileBreaksRule byte) = row 17 byte
+tells (Refusal.RoomTooShort needed) = row 18 needed
+tells Refusal.NoLegalFile = row 19 0
 
 abbrev pub number : Refusal → ℕ
-number UnknownLevel = 1
-number TooManyLines = 2
-number (ValueTooLarge line) = 3
-number (TotalTooLarge line) = 4
-number TotalZero = 5
-number ToleranceOutOfRange = 6
-number ToleranceSpent = 7
-number NoDraws = 8
-number DrawsUsedUp = 9
-number IntervalTooLarge = 10
-number StartOutOfRange = 11
-number (NoWordPasses words) = 12
-number LengthsDiffer = 13
-number (ErrorAboveValue line) = 14
-number (ErrorNotDrawn line) = 15
-number TooManyErrors = 16
-number (FileBreaksRule byte) = 17
-number (RoomTooShort needed) = 18
-number NoLegalFile = 19
+number why = tells why .number
 
 abbrev pub place : Refusal → ℕ
-place UnknownLevel = 0
-place TooManyLines = 0
-place (ValueTooLarge line) = line
-place (TotalTooLarge line) = line
-place TotalZero = 0
-place ToleranceOutOfRange = 0
-place ToleranceSpent = 0
-place NoDraws = 0
-place DrawsUsedUp = 0
-place IntervalTooLarge = 0
-place StartOutOfRange = 0
-place (NoWordPasses words) = words
-place LengthsDiffer = 0
-place (ErrorAboveValue line) = line
-place (ErrorNotDrawn line) = line
-place TooManyErrors = 0
-place (FileBreaksRule byte) = byte
-place (RoomTooShort needed) = needed
-place NoLegalFile = 0
+place why = tells why .place

@@ -1,6 +1,7 @@
 // The words that every step shares: the limits, the two kinds of place, and the refusals.
 ghost use mathlib.Core.Path.{_≡_};
-ghost use Rattle.terms.specs.Refusals.{number, place};
+ghost use Prim.Native.Nat.{_<_};
+ghost use Rattle.terms.specs.Refusals.{row, tells};
 
 // The largest sizes that are taken. The definitions name the same numbers in specs/Limits.antt.
 pub const MOST_LINES: usize = 1_000_000;
@@ -42,56 +43,49 @@ pub enum Refusal {
     NoLegalFile,
 }
 
-// The number of a refusal.
-pub fn number_of(refusal: Refusal) -> u64
-    ensures { λ r. ⌜ r ≡ number refusal ⌝ }
+// What a refusal tells: its number in document 01's table, and the place that it names: a line, a byte, a count that is needed, or 0.
+pub struct Told {
+    pub number: u64,
+    pub place: u64,
+}
+
+// A row of the table of refusals.
+fn row(number: u64, place: u64) -> Told
+    ensures { λ r. ⌜ r ≡ row number place ⌝ }
+{
+    Told { number, place }
+}
+
+// The number and the place of a refusal.
+pub fn tell(refusal: Refusal) -> Told
+    ensures { λ r. ⌜ r ≡ tells refusal ⌝ }
 {
     match refusal {
-        Refusal::UnknownLevel => 1,
-        Refusal::TooManyLines => 2,
-        Refusal::ValueTooLarge(_) => 3,
-        Refusal::TotalTooLarge(_) => 4,
-        Refusal::TotalZero => 5,
-        Refusal::ToleranceOutOfRange => 6,
-        Refusal::ToleranceSpent => 7,
-        Refusal::NoDraws => 8,
-        Refusal::DrawsUsedUp => 9,
-        Refusal::IntervalTooLarge => 10,
-        Refusal::StartOutOfRange => 11,
-        Refusal::NoWordPasses(_) => 12,
-        Refusal::LengthsDiffer => 13,
-        Refusal::ErrorAboveValue(_) => 14,
-        Refusal::ErrorNotDrawn(_) => 15,
-        Refusal::TooManyErrors => 16,
-        Refusal::FileBreaksRule(_) => 17,
-        Refusal::RoomTooShort(_) => 18,
-        Refusal::NoLegalFile => 19,
+        Refusal::UnknownLevel => row(1, 0),
+        Refusal::TooManyLines => row(2, 0),
+        Refusal::ValueTooLarge(line) => row(3, line),
+        Refusal::TotalTooLarge(line) => row(4, line),
+        Refusal::TotalZero => row(5, 0),
+        Refusal::ToleranceOutOfRange => row(6, 0),
+        Refusal::ToleranceSpent => row(7, 0),
+        Refusal::NoDraws => row(8, 0),
+        Refusal::DrawsUsedUp => row(9, 0),
+        Refusal::IntervalTooLarge => row(10, 0),
+        Refusal::StartOutOfRange => row(11, 0),
+        Refusal::NoWordPasses(words) => row(12, words),
+        Refusal::LengthsDiffer => row(13, 0),
+        Refusal::ErrorAboveValue(line) => row(14, line),
+        Refusal::ErrorNotDrawn(line) => row(15, line),
+        Refusal::TooManyErrors => row(16, 0),
+        Refusal::FileBreaksRule(byte) => row(17, byte),
+        Refusal::RoomTooShort(needed) => row(18, needed),
+        Refusal::NoLegalFile => row(19, 0),
     }
 }
 
-// The place of a refusal: a line, a byte, a count that is needed, or 0.
-pub fn place_of(refusal: Refusal) -> u64
-    ensures { λ r. ⌜ r ≡ place refusal ⌝ }
+// A byte as a number.
+pub fn widen(byte: u8) -> u64
+    ensures { λ r. ⌜ (r ≡ byte) × (r < 256) ⌝ }
 {
-    match refusal {
-        Refusal::UnknownLevel => 0,
-        Refusal::TooManyLines => 0,
-        Refusal::ValueTooLarge(line) => line,
-        Refusal::TotalTooLarge(line) => line,
-        Refusal::TotalZero => 0,
-        Refusal::ToleranceOutOfRange => 0,
-        Refusal::ToleranceSpent => 0,
-        Refusal::NoDraws => 0,
-        Refusal::DrawsUsedUp => 0,
-        Refusal::IntervalTooLarge => 0,
-        Refusal::StartOutOfRange => 0,
-        Refusal::NoWordPasses(words) => words,
-        Refusal::LengthsDiffer => 0,
-        Refusal::ErrorAboveValue(line) => line,
-        Refusal::ErrorNotDrawn(line) => line,
-        Refusal::TooManyErrors => 0,
-        Refusal::FileBreaksRule(byte) => byte,
-        Refusal::RoomTooShort(needed) => needed,
-        Refusal::NoLegalFile => 0,
-    }
+    byte as u64
 }

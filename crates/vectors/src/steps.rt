@@ -1,204 +1,55 @@
-// A case of each step: it lends what the input gives, calls the operation and writes the line. Each answers the place of the next case.
-use feed::input::byte_at;
-use feed::input::eight;
-use feed::input::four;
-use feed::input::on;
+// A case of any operation but the read: it lends what the case gives, calls the operation and writes the line.
+use answers::Answer;
+use feed::fields;
+use feed::fields::Case;
 use feed::lines;
-use feed::lines::Told;
-use feed::lists;
 use feed::rooms;
+use parts::front_to_fill;
+use parts::part;
 
-pub fn size(input: &[u8], at: usize, number: u64) -> usize {
-    let level = byte_at(input, at);
-    let total = eight(input, on(input, at, 1));
-    let te = eight(input, on(input, at, 9));
-    let ae = eight(input, on(input, at, 17));
-    let r = results::steps::of_size(size::size(level, total, te, ae));
-    let told = Told {
-        refusal: r.refusal,
-        place: r.place,
-        verdict: 0,
-    };
-    lines::tell(number, b" size", told, &[r.draws]);
-    on(input, at, 25)
+fn answer(case: Case, ledger: &[u64], errors: &[u64], words: &[u64], room: &mut [u8]) -> Answer {
+    let operation = case.operation;
+    match operation {
+        2 => calls::split(ledger, case.first, room),
+        3 => calls::start(case.first, words),
+        4 => calls::draw(ledger, case.first, case.second, room),
+        5 => calls::project(ledger, case.first, case.second, errors),
+        6 => calls::judge(
+            case.level,
+            ledger,
+            case.first,
+            case.second,
+            errors,
+            case.third,
+        ),
+        8 => calls::write(
+            case.level,
+            case.first,
+            case.second,
+            words,
+            ledger,
+            errors,
+            room,
+        ),
+        _ => calls::size(case.level, case.first, case.second, case.third),
+    }
 }
 
-fn split_on(input: &[u8], at: usize, number: u64, n: u64, ledger: &mut [u64], marks: &mut [u8]) {
-    lists::fill(input, at, ledger);
-    rooms::fill_bytes(marks);
-    let r = results::steps::of_split(split::split(ledger, n, marks));
-    let told = Told {
-        refusal: r.refusal,
-        place: r.place,
-        verdict: 0,
-    };
-    let figures = [
-        r.interval,
-        r.draws_left,
-        r.sampled_total,
-        r.full_lines,
-        r.full_total,
-    ];
-    let digests = [rooms::digest_numbers(ledger), rooms::digest_bytes(marks)];
-    lines::tell_lent(number, b" split", told, &figures, &digests);
+fn call(number: u64, case: Case, ledger: &[u64], errors: &[u64], words: &[u64], room: &mut [u8]) {
+    rooms::fill(room);
+    let answer = answer(case, ledger, errors, words, room);
+    lines::tell(number, case.operation, answer, room, ledger, errors, words);
 }
 
-pub fn split(input: &[u8], at: usize, number: u64, ledger: &mut [u64], marks: &mut [u8]) -> usize {
-    let after = lists::end(input, at);
-    let n = eight(input, after);
-    let lines = lists::count(input, at, ledger.len());
-    let length = rooms::length_of(four(input, on(input, after, 8)), marks.len());
-    split_on(
-        input,
-        at,
+pub fn run(number: u64, input: &[u8], numbers: &mut [u64], room: &mut [u8]) {
+    let lists = fields::lay(input, numbers);
+    let case = fields::numbers(input);
+    call(
         number,
-        n,
-        &mut ledger[..lines],
-        &mut marks[..length],
+        case,
+        part(numbers, 0, lists.ledger),
+        part(numbers, lists.ledger, lists.errors),
+        part(numbers, lists.before, lists.words),
+        front_to_fill(room, case.room),
     );
-    on(input, after, 12)
-}
-
-pub fn start(input: &[u8], at: usize, number: u64, words: &mut [u64]) -> usize {
-    let interval = eight(input, at);
-    let list = on(input, at, 8);
-    let count = lists::count(input, list, words.len());
-    lists::fill(input, list, &mut words[..count]);
-    let r = results::steps::of_start(start::start(interval, &words[..count]));
-    let told = Told {
-        refusal: r.refusal,
-        place: r.place,
-        verdict: 0,
-    };
-    let figures = [r.start, r.words];
-    let digests = [rooms::digest_numbers(&words[..count])];
-    lines::tell_lent(number, b" start", told, &figures, &digests);
-    lists::end(input, list)
-}
-
-// The number of the case, the place of its ledger, and the numbers after its lists.
-struct Drawing {
-    number: u64,
-    at: usize,
-    n: u64,
-    start: u64,
-}
-
-fn draw_on(input: &[u8], drawing: Drawing, ledger: &mut [u64], marks: &mut [u8]) {
-    lists::fill(input, drawing.at, ledger);
-    rooms::fill_bytes(marks);
-    let r = results::steps::of_draw(draw::draw(ledger, drawing.n, drawing.start, marks));
-    let told = Told {
-        refusal: r.refusal,
-        place: r.place,
-        verdict: 0,
-    };
-    let figures = [r.drawn];
-    let digests = [rooms::digest_numbers(ledger), rooms::digest_bytes(marks)];
-    lines::tell_lent(drawing.number, b" draw", told, &figures, &digests);
-}
-
-pub fn draw(input: &[u8], at: usize, number: u64, ledger: &mut [u64], marks: &mut [u8]) -> usize {
-    let after = lists::end(input, at);
-    let drawing = Drawing {
-        number,
-        at,
-        n: eight(input, after),
-        start: eight(input, on(input, after, 8)),
-    };
-    let lines = lists::count(input, at, ledger.len());
-    let length = rooms::length_of(four(input, on(input, after, 16)), marks.len());
-    draw_on(input, drawing, &mut ledger[..lines], &mut marks[..length]);
-    on(input, after, 20)
-}
-
-fn project_on(input: &[u8], drawing: Drawing, ledger: &mut [u64], errors: &mut [u64]) {
-    lists::fill(input, drawing.at, ledger);
-    lists::fill(input, lists::end(input, drawing.at), errors);
-    let r = results::steps::of_project(project::project(ledger, drawing.n, drawing.start, errors));
-    let told = Told {
-        refusal: r.refusal,
-        place: r.place,
-        verdict: 0,
-    };
-    let figures = [r.full, r.sampled, r.m];
-    let digests = [rooms::digest_numbers(ledger), rooms::digest_numbers(errors)];
-    lines::tell_lent(drawing.number, b" project", told, &figures, &digests);
-}
-
-pub fn project(
-    input: &[u8],
-    at: usize,
-    number: u64,
-    ledger: &mut [u64],
-    errors: &mut [u64],
-) -> usize {
-    let list = lists::end(input, at);
-    let after = lists::end(input, list);
-    let drawing = Drawing {
-        number,
-        at,
-        n: eight(input, after),
-        start: eight(input, on(input, after, 8)),
-    };
-    let lines = lists::count(input, at, ledger.len());
-    let length = lists::count(input, list, errors.len());
-    project_on(input, drawing, &mut ledger[..lines], &mut errors[..length]);
-    on(input, after, 16)
-}
-
-// What a judgement takes beside the lists.
-struct Judging {
-    drawing: Drawing,
-    level: u8,
-    te: u64,
-}
-
-fn judge_on(input: &[u8], judging: Judging, ledger: &mut [u64], errors: &mut [u64]) {
-    let drawing = judging.drawing;
-    lists::fill(input, drawing.at, ledger);
-    lists::fill(input, lists::end(input, drawing.at), errors);
-    let r = results::steps::of_judge(judge::judge(
-        judging.level,
-        ledger,
-        drawing.n,
-        drawing.start,
-        errors,
-        judging.te,
-    ));
-    let told = Told {
-        refusal: r.refusal,
-        place: r.place,
-        verdict: r.verdict,
-    };
-    let figures = [r.full, r.sampled, r.m, r.precision, r.upper_limit];
-    let digests = [rooms::digest_numbers(ledger), rooms::digest_numbers(errors)];
-    lines::tell_lent(drawing.number, b" judge", told, &figures, &digests);
-}
-
-pub fn judge(
-    input: &[u8],
-    at: usize,
-    number: u64,
-    ledger: &mut [u64],
-    errors: &mut [u64],
-) -> usize {
-    let first = on(input, at, 1);
-    let list = lists::end(input, first);
-    let after = lists::end(input, list);
-    let drawing = Drawing {
-        number,
-        at: first,
-        n: eight(input, after),
-        start: eight(input, on(input, after, 8)),
-    };
-    let judging = Judging {
-        drawing,
-        level: byte_at(input, at),
-        te: eight(input, on(input, after, 16)),
-    };
-    let lines = lists::count(input, first, ledger.len());
-    let length = lists::count(input, list, errors.len());
-    judge_on(input, judging, &mut ledger[..lines], &mut errors[..length]);
-    on(input, after, 24)
 }

@@ -1,5 +1,5 @@
 -- What the rules keep true of the content read so far, and what one record adds to it. Assumes nothing.
-use Prim.Native.Nat.{ℕ, _+_, _-_, _*_, _<_, _≤_}
+use Prim.Native.Nat.{ℕ, _+_, _*_, _<_, _≤_}
 use mathlib.Core.Path.{_≡_, refl, ap, ap₂, sym, _∙_}
 use mathlib.Core.Bool.{false}
 use mathlib.Core.List.{List, [], _∷_, _++_, map, map-append, append-nil, append-assoc}
@@ -10,6 +10,7 @@ use Rattle.terms.proofs.Sums.{sum-append}
 use Rattle.workfile.specs.Content.{Content, mostWords, mostFileLines, sumBound, planBytes, bytesOf, bytesOfAll, errorRecords, between, closing, encode}
 use Rattle.workfile.specs.Decode.{size, isEnd, tallyOf, grow, start}
 use Rattle.workfile.specs.Rules.{Rule}
+use Rattle.workfile.specs.Promises.{counted}
 use Rattle.workfile.specs.declared.Plan.{Plan}
 use Rattle.workfile.specs.declared.FileRecord.{FileRecord}
 use Rattle.workfile.specs.declared.FileRecord.the-variants.{Word, Value, ErrorOf, End, Nothing}
@@ -79,6 +80,10 @@ pub front-end : (c : Content) (n s : ℕ) → front (grow c (End n s)) ≡ front
 unfolding grow
 front-end c n s = ap (λ (l : List FileRecord). planBytes (c .plan) ++ bytesOfAll (map Word (c .words) ++ map Value (c .values) ++ l)) (errors-pad n (c .errors))
 
+pub counted-end : (c : Content) (n s : ℕ) → counted (grow c (End n s)) ≡ counted c
+unfolding grow
+counted-end c n s = refl
+
 -- the content that Z completes has an error for each line
 pub end-same : (c : Content) (n s : ℕ) → SoFar c → Rule (tallyOf c) (End n s) → length ((grow c (End n s)) .errors) ≡ length ((grow c (End n s)) .values)
 unfolding grow
@@ -103,6 +108,20 @@ length-between c =
 pub length-encode : (c : Content) → length (encode c) ≡ 31 + 9 * length (c .words) + 9 * length (c .values) + 13 * length (errorRecords 0 (c .errors))
 unfolding encode
 length-encode c = length-append (front c) (bytesOf (closing c)) ∙ omega (arith, length-between c)
+
+-- a file by its parts: P, the records of each kind, and Z
+pub encode-parts : (c : Content) → planBytes (c .plan) ++ bytesOfAll (map Word (c .words)) ++ bytesOfAll (map Value (c .values)) ++ bytesOfAll (errorRecords 0 (c .errors)) ++ bytesOf (closing c) ≡ encode c
+unfolding encode
+encode-parts c =
+    let w = map Word (c .words) in
+    let v = map Value (c .values) in
+    let e = errorRecords 0 (c .errors) in
+    let inner : bytesOfAll (between c) ≡ bytesOfAll w ++ bytesOfAll v ++ bytesOfAll e =
+    bytes-append (w ++ v) e ∙ ap (λ (l : List ℕ). l ++ bytesOfAll e) (bytes-append w v) in
+    regroup (planBytes (c .plan)) (bytesOfAll w) (bytesOfAll v) (bytesOfAll e) (bytesOf (closing c)) ∙ ap (λ (l : List ℕ). planBytes (c .plan) ++ l ++ bytesOf (closing c)) (sym inner)
+  where
+    regroup : (p a b e z : List ℕ) → p ++ a ++ b ++ e ++ z ≡ p ++ (a ++ b ++ e) ++ z
+    regroup p a b e z = simp append-assoc
 
 -- the records before Z end 13 bytes before the longest file does
 pub front-short : (c : Content) → SoFar c → length (front c) ≤ 45650

@@ -4,6 +4,8 @@ pub mod Records
 pub mod Rules
 pub mod Lists
 pub mod Growing
+pub mod Finding
+pub mod Stopping
 pub mod OneFile
 pub mod RoundTrip
 pub mod Longest

@@ -3,10 +3,11 @@ use Prim.Native.Nat.{ℕ, zero, suc, _+_, _-_, _*_, _<_, _≤_}
 use mathlib.Core.Path.{_≡_, refl, ap, ap₂, sym, _∙_}
 use mathlib.Core.List.{List, [], _∷_, _++_, map, append-nil, append-assoc}
 use native.Mathlib.Omega.{arith}
-use lib.ListN.{length, replicate, length-append, length-replicate, replicate-append-replicate}
-use Rattle.terms.specs.Numbers.{sum}
+use lib.ListN.{length, getD, drop, set, replicate, length-append, length-drop, length-replicate, replicate-append-replicate}
+use lib.Seq.{drop-cons, set-append-seam}
 use Rattle.workfile.specs.Content.{bytesOf, bytesOfAll, errorRecords}
 use Rattle.workfile.specs.Decode.{padTo}
+use Rattle.workfile.specs.Promises.{over}
 use Rattle.workfile.specs.declared.FileRecord.{FileRecord}
 use Rattle.workfile.specs.declared.FileRecord.the-variants.{Word, Value, ErrorOf}
 
@@ -76,3 +77,14 @@ pub few-errors : (i : ℕ) (es : List ℕ) → length (errorRecords i es) ≤ le
 few-errors i [] = omega arith
 few-errors i (zero ∷ es) = omega (arith, few-errors (suc i) es)
 few-errors i (suc e ∷ es) = omega (arith, few-errors (suc i) es)
+
+-- entries laid over a buffer, and one more
+pub length-over : (xs old : List ℕ) → length xs ≤ length old → length (over xs old) ≡ length old
+length-over xs old h = length-append xs (drop (length xs) old) ∙ omega (arith, length-drop (length xs) old)
+
+pub over-more : (xs old : List ℕ) (x : ℕ) → length xs < length old → set (over xs old) (length xs) x ≡ over (xs ++ (x ∷ [])) old
+over-more xs old x h =
+    let n : length (xs ++ (x ∷ [])) ≡ suc (length xs) = length-append xs (x ∷ []) ∙ omega arith in
+    ap (λ (l : List ℕ). set (xs ++ l) (length xs) x) (drop-cons old (length xs) 0 h)
+    ∙ set-append-seam xs (getD old (length xs) 0) (drop (suc (length xs)) old) x
+    ∙ sym (ap (λ (k : ℕ). xs ++ (x ∷ []) ++ drop k old) n ∙ append-assoc xs (x ∷ []) (drop (suc (length xs)) old))

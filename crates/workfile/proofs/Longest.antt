@@ -13,7 +13,7 @@ use Rattle.terms.specs.Outcome.{Outcome, accepted, refused}
 use Rattle.terms.specs.Numbers.{pick}
 use Rattle.terms.proofs.Tests.{le-or-lt}
 use Rattle.workfile.specs.Numbers.{Bytes, littleEndian}
-use Rattle.workfile.specs.Content.{Content, longestFile, encode}
+use Rattle.workfile.specs.Content.{Content, longestFile, encode, Counts}
 use Rattle.workfile.specs.Decode.{size, isEnd, recordOf, tallyOf, fits, grow, closed, run, hasPlan, planOf, start, decode}
 use Rattle.workfile.specs.declared.Plan.{Plan}
 use Rattle.workfile.proofs.Numbers.{number-of-front}
@@ -21,7 +21,7 @@ use Rattle.workfile.proofs.Records.{whole-size, cut-record, drop-take}
 use Rattle.workfile.proofs.Rules.{rule, some-size}
 use Rattle.workfile.proofs.Lists.{few-errors}
 use Rattle.workfile.proofs.Growing.{SoFar, at-first, one-more, front, front-short, length-front, length-encode}
-use Rattle.workfile.proofs.OneFile.{Counts, one-file, read-counts, refused-so}
+use Rattle.workfile.proofs.OneFile.{one-file, read-counts, refused-so}
 
 -- no legal file is longer
 pub encode-short : (c : Content) → Counts c → length (encode c) ≤ longestFile

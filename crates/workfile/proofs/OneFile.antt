@@ -1,6 +1,6 @@
 -- One file for each content: a file that is accepted is the file of what it reads to, so no second file has its content.
 -- Assumes nothing.
-use Prim.Native.Nat.{ℕ, zero, suc, _+_, _-_, _<_, _≤_}
+use Prim.Native.Nat.{ℕ, zero, suc, _+_, _≤_}
 use mathlib.Core.Path.{_≡_, refl, ap, ap₂, subst, sym, _∙_}
 use mathlib.Core.List.{List, [], _∷_, _++_, append-assoc}
 use mathlib.Core.Bool.{Bool, true, false}
@@ -10,11 +10,12 @@ use lib.Seq.{getD-drop, take-add}
 use borrow.Author.Tests.{eqb-true, leb-true}
 use lib.ListN.{length, take, drop, getD, take-append-drop, length-drop, drop-of-length-le}
 use Rattle.terms.specs.Outcome.{accepted, refused}
-use Rattle.terms.specs.Numbers.{pick, sum}
+use Rattle.terms.specs.Numbers.{pick}
 use Rattle.terms.proofs.Outcomes.{never, Gives}
 use Rattle.terms.proofs.Tests.{by-test}
 use Rattle.workfile.specs.Numbers.{Bytes, littleEndian, bytes}
-use Rattle.workfile.specs.Content.{Content, mostWords, mostFileLines, sumBound, planBytes, bytesOf, encode}
+use Rattle.workfile.specs.Content.{Content, planBytes, bytesOf, encode}
+pub use Rattle.workfile.specs.Content.{Counts}
 use Rattle.workfile.specs.Decode.{size, isEnd, recordOf, tallyOf, fits, grow, run, hasPlan, planOf, start, decode}
 use Rattle.workfile.specs.Rules.{Rule}
 use Rattle.workfile.specs.declared.FileRecord.{FileRecord}
@@ -23,13 +24,6 @@ use Rattle.workfile.proofs.Numbers.{bytes-again}
 use Rattle.workfile.proofs.Records.{its-bytes}
 use Rattle.workfile.proofs.Rules.{rule, both, is-end}
 use Rattle.workfile.proofs.Growing.{SoFar, at-first, one-more, front, front-grow, front-end, end-same}
-
--- the counts and the sum of a content that has a legal file
-pub record Counts (c : Content) : Type 0 where
-  pub few-words : length (c .words) ≤ mostWords
-  pub few-lines : length (c .values) ≤ mostFileLines
-  pub total : sum (c .values) < sumBound
-  pub same : length (c .errors) ≡ length (c .values)
 
 -- what a run that reads d has passed, and what was left
 record Reads (c : Content) (bs : List ℕ) (d : Content) : Type 0 where

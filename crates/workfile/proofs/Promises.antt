@@ -4,16 +4,16 @@ use Prim.Native.Nat.{ℕ, _<_, _≤_}
 use mathlib.Core.Path.{_≡_, refl, ap, sym, _∙_}
 use mathlib.Core.List.{List}
 use lib.Dec.{eqb, ltb}
-use borrow.Author.Tests.{eqb-true, ltb-true, leb-true, lt-ltb, le-ltb, le-leb, eq-eqb}
+use borrow.Author.Tests.{eqb-true, ltb-true, leb-true, lt-ltb, le-ltb, le-leb, lt-leb, eq-eqb, ne-eqb}
 use lib.ListN.{length, take, drop}
 use lib.Seq.{take-at}
 use Rattle.terms.specs.Outcome.{Outcome, accepted, refused, after, left}
-use Rattle.terms.specs.Numbers.{sum}
+use Rattle.terms.specs.Numbers.{pick, sum}
 use Rattle.terms.proofs.Answers.{Made, good, bad, one-answer}
 use Rattle.terms.proofs.Outcomes.{never, after-accepted}
 use Rattle.terms.proofs.Tests.{by-test}
 use Rattle.workfile.specs.Numbers.{Bytes}
-use Rattle.workfile.specs.Content.{Content, mostWords, mostFileLines, sumBound, encode}
+use Rattle.workfile.specs.Content.{Content, mostWords, mostFileLines, sumBound, encode, Counts}
 use Rattle.workfile.specs.Decode.{decode}
 use Rattle.workfile.specs.Promises.{over, readSays, counted, countsOf, withRoom, readOf, Rooms, ReadPromise, writeSays, hasFile, writeOf, planWith, contentWith, WritePromise}
 use Rattle.workfile.specs.declared.Plan.{Plan}
@@ -23,7 +23,7 @@ use Rattle.workfile.specs.declared.ReadAnswer.the-variants as read
 use Rattle.workfile.specs.declared.WriteAnswer.{WriteAnswer}
 use Rattle.workfile.specs.declared.WriteAnswer.the-variants as write
 use Rattle.workfile.proofs.Rules.{both}
-use Rattle.workfile.proofs.OneFile.{Counts, one-file, no-second-file, read-counts}
+use Rattle.workfile.proofs.OneFile.{one-file, no-second-file, read-counts}
 use Rattle.workfile.proofs.RoundTrip.{Fit, round-trip}
 use Rattle.workfile.proofs.Longest.{first-decide}
 
@@ -90,17 +90,47 @@ wrote c room bs =
 pub written-reads : (c : Content) (room : ℕ) (bs : List ℕ) → Fit c → writeOf c room ≡ accepted bs → decode bs ≡ accepted c
 written-reads c room bs f e = let q = wrote c room bs e in ap decode (sym (q .1)) ∙ round-trip c f (q .0)
 
--- a content within its limits is written, where there is room for its file
-pub counts-write : (c : Content) (room : ℕ) → Counts c → length (encode c) ≤ room → writeOf c room ≡ accepted (encode c)
+-- the room decides where a content is within its limits
+counts-decide : (c : Content) (room : ℕ) → Counts c → writeOf c room ≡ pick (ltb room (length (encode c))) (refused 18 (length (encode c))) (accepted (encode c))
 unfolding writeOf
-counts-write c room k h =
+counts-decide c room k =
     rw (
       eq-eqb (length (c .errors)) (length (c .values)) (k .same),
       le-leb (length (c .words)) mostWords (k .few-words),
       le-leb (length (c .values)) mostFileLines (k .few-lines),
       lt-ltb (sum (c .values)) sumBound (k .total),
-      le-ltb room (length (encode c)) h,
     )
+
+pub counts-write : (c : Content) (room : ℕ) → Counts c → length (encode c) ≤ room → writeOf c room ≡ accepted (encode c)
+counts-write c room k h = counts-decide c room k ∙ rw (le-ltb room (length (encode c)) h)
+
+pub counts-short : (c : Content) (room : ℕ) → Counts c → room < length (encode c) → writeOf c room ≡ refused 18 (length (encode c))
+counts-short c room k h = counts-decide c room k ∙ rw (lt-ltb room (length (encode c)) h)
+
+-- 13 and 19 come first
+module _ (c : Content) (room : ℕ) where
+  pub lengths-differ : (length (c .errors) ≡ length (c .values) → ⊥) → writeOf c room ≡ refused 13 0
+  unfolding writeOf
+  lengths-differ h = rw (ne-eqb (length (c .errors)) (length (c .values)) h)
+
+  module _ (same : length (c .errors) ≡ length (c .values)) where
+    pub many-words : mostWords < length (c .words) → writeOf c room ≡ refused 19 0
+    unfolding writeOf
+    many-words h = rw (eq-eqb (length (c .errors)) (length (c .values)) same, lt-leb (length (c .words)) mostWords h)
+
+    pub many-lines : length (c .words) ≤ mostWords → mostFileLines < length (c .values) → writeOf c room ≡ refused 19 0
+    unfolding writeOf
+    many-lines w h = rw (eq-eqb (length (c .errors)) (length (c .values)) same, le-leb (length (c .words)) mostWords w, lt-leb (length (c .values)) mostFileLines h)
+
+    pub sum-past : length (c .words) ≤ mostWords → length (c .values) ≤ mostFileLines → sumBound ≤ sum (c .values) → writeOf c room ≡ refused 19 0
+    unfolding writeOf
+    sum-past w v h =
+        rw (
+          eq-eqb (length (c .errors)) (length (c .values)) same,
+          le-leb (length (c .words)) mostWords w,
+          le-leb (length (c .values)) mostFileLines v,
+          le-ltb (sum (c .values)) sumBound h,
+        )
 
 -- writing what a legal file reads to gives that file
 pub read-writes : (f : List ℕ) (d : Content) (room : ℕ) → Bytes f → decode f ≡ accepted d → length f ≤ room → writeOf d room ≡ accepted f

@@ -1,5 +1,5 @@
 -- The file of a content reads back to that content. Assumes nothing.
-use Prim.Native.Nat.{ℕ, zero, suc, _+_, _-_, _^_, _<_, _≤_}
+use Prim.Native.Nat.{ℕ, zero, suc, _+_, _^_, _<_, _≤_}
 use mathlib.Core.Path.{_≡_, refl, ap, sym, _∙_}
 use mathlib.Core.List.{List, [], _∷_, _++_, map, append-nil, append-assoc}
 use mathlib.Core.Bool.{Bool, true, false}
@@ -10,7 +10,7 @@ use Rattle.terms.specs.Outcome.{accepted, refused}
 use Rattle.terms.specs.Numbers.{pick, sum}
 use Rattle.terms.proofs.Sums.{sum-append}
 use Rattle.workfile.specs.Numbers.{bytes}
-use Rattle.workfile.specs.Content.{Content, mostWords, mostFileLines, sumBound, planBytes, bytesOf, bytesOfAll, errorRecords, between, closing, encode}
+use Rattle.workfile.specs.Content.{Content, mostWords, mostFileLines, sumBound, planBytes, bytesOf, bytesOfAll, errorRecords, between, closing, encode, Counts}
 use Rattle.workfile.specs.Decode.{size, isEnd, tallyOf, grow, padTo, withErrors, run, hasPlan, planOf, start, decode}
 use Rattle.workfile.specs.Rules.{Rule}
 use Rattle.workfile.specs.declared.Plan.{Plan}
@@ -20,7 +20,6 @@ use Rattle.workfile.proofs.Numbers.{number-again}
 use Rattle.workfile.proofs.Records.{Good, record-again, skip, length-record}
 use Rattle.workfile.proofs.Rules.{fitted, some-size}
 use Rattle.workfile.proofs.Lists.{pad-skip, pad-take}
-use Rattle.workfile.proofs.OneFile.{Counts}
 
 -- the numbers of a content fit their bytes, as those of lent slices do
 abbrev pub Below : List ℕ → Type 0

@@ -1,10 +1,10 @@
 -- The rules as facts: what `fits` tests, and which record is Z. Assumes nothing.
 use Prim.Native.Nat.{ℕ, _≤_}
-use mathlib.Core.Path.{_≡_, refl}
-use mathlib.Core.Bool.{Bool, true, false, _&&_}
+use mathlib.Core.Path.{_≡_, refl, sym}
+use mathlib.Core.Bool.{Bool, true, false, _&&_, not}
 use native.Mathlib.Omega.{arith}
 use borrow.Author.Tests.{le-leb, lt-ltb, eq-eqb, leb-true, ltb-true, eqb-true}
-use Rattle.workfile.specs.Decode.{fits, isEnd, size}
+use Rattle.workfile.specs.Decode.{fits, isEnd, size, readsOn}
 use Rattle.workfile.specs.Rules.{Rule}
 use Rattle.workfile.specs.declared.Tally.{Tally}
 use Rattle.workfile.specs.declared.FileRecord.{FileRecord}
@@ -32,6 +32,14 @@ fitted t (Value v) h = and-true _ _ (eq-eqb _ _ (h .0)) (and-true _ _ (lt-ltb _ 
 fitted t (ErrorOf l e) h = and-true _ _ (le-leb _ _ (h .0)) (and-true _ _ (lt-ltb _ _ (h .1 .0)) (lt-ltb _ _ (h .1 .1)))
 fitted t (End n s) h = and-true _ _ (eq-eqb _ _ (h .0)) (eq-eqb _ _ (h .1))
 fitted t Nothing h = absurd h
+
+-- a record that the rules allow and that does not go on is Z
+pub is-last : (t : Tally) (r : FileRecord) → readsOn t r ≡ false → fits t r ≡ true → isEnd r ≡ true
+is-last t r g f = go (isEnd r) (rw f at g)
+  where
+    go : (b : Bool) → not b ≡ false → b ≡ true
+    go true e = refl
+    go false e = sym e
 
 -- Z, with its count and its sum
 pub is-end : (r : FileRecord) → isEnd r ≡ true → (n : ℕ) × (s : ℕ) × (r ≡ End n s)

@@ -1,12 +1,11 @@
--- What a working file holds, and the file of a content. These are definitions: nothing is assumed.
-use Prim.Native.Nat.{ℕ, zero, suc, _^_}
+-- What a working file holds, and the file of a content. Definitions: nothing is assumed.
+use Prim.Native.Nat.{ℕ, zero, suc, _^_, _<_, _≤_}
+use mathlib.Core.Path.{_≡_}
 use mathlib.Core.List.{List, [], _∷_, _++_, map}
 use lib.ListN.{length}
 use Rattle.terms.specs.Numbers.{sum}
 use Rattle.workfile.specs.Numbers.{bytes}
-use Rattle.workfile.specs.declared.Plan.{Plan}
-use Rattle.workfile.specs.declared.FileRecord.{FileRecord}
-use Rattle.workfile.specs.declared.FileRecord.the-variants.{Word, Value, ErrorOf, End, Nothing}
+use Rattle.workfile.specs.declared.{Plan.Plan, FileRecord.FileRecord}
 
 -- The limits of a file: counts of W and of L, what the sum of L stays below, and the length of the longest.
 abbrev pub mostWords : ℕ
@@ -33,11 +32,11 @@ abbrev pub planBytes : Plan → List ℕ
 planBytes p = 0x50 ∷ p .level ∷ bytes 8 (p .te) ++ bytes 8 (p .ae)
 
 abbrev pub bytesOf : FileRecord → List ℕ
-bytesOf (Word w) = 0x57 ∷ bytes 8 w
-bytesOf (Value v) = 0x4C ∷ bytes 8 v
-bytesOf (ErrorOf l e) = 0x45 ∷ (bytes 4 l ++ bytes 8 e)
-bytesOf (End n s) = 0x5A ∷ (bytes 4 n ++ bytes 8 s)
-bytesOf Nothing = []
+bytesOf (FileRecord.Word w) = 0x57 ∷ bytes 8 w
+bytesOf (FileRecord.Value v) = 0x4C ∷ bytes 8 v
+bytesOf (FileRecord.ErrorOf l e) = 0x45 ∷ (bytes 4 l ++ bytes 8 e)
+bytesOf (FileRecord.End n s) = 0x5A ∷ (bytes 4 n ++ bytes 8 s)
+bytesOf FileRecord.Nothing = []
 
 abbrev pub bytesOfAll : List FileRecord → List ℕ
 bytesOfAll [] = []
@@ -47,15 +46,22 @@ bytesOfAll (r ∷ rs) = bytesOf r ++ bytesOfAll rs
 abbrev pub errorRecords : ℕ → List ℕ → List FileRecord
 errorRecords i [] = []
 errorRecords i (zero ∷ es) = errorRecords (suc i) es
-errorRecords i (suc e ∷ es) = ErrorOf i (suc e) ∷ errorRecords (suc i) es
+errorRecords i (suc e ∷ es) = FileRecord.ErrorOf i (suc e) ∷ errorRecords (suc i) es
 
 -- the records between P and Z, and Z
 abbrev pub between : Content → List FileRecord
-between c = map Word (c .words) ++ map Value (c .values) ++ errorRecords 0 (c .errors)
+between c = map FileRecord.Word (c .words) ++ map FileRecord.Value (c .values) ++ errorRecords 0 (c .errors)
 
 abbrev pub closing : Content → FileRecord
-closing c = End (length (c .values)) (sum (c .values))
+closing c = FileRecord.End (length (c .values)) (sum (c .values))
 
 -- the file of a content
 unfoldable pub encode : Content → List ℕ
 encode c = planBytes (c .plan) ++ bytesOfAll (between c) ++ bytesOf (closing c)
+
+-- the counts and the sum of a content that has a legal file
+pub record Counts (c : Content) : Type 0 where
+  pub few-words : length (c .words) ≤ mostWords
+  pub few-lines : length (c .values) ≤ mostFileLines
+  pub total : sum (c .values) < sumBound
+  pub same : length (c .errors) ≡ length (c .values)

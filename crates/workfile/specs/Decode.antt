@@ -1,7 +1,6 @@
--- The content of a file, record by record, or the offset of the first record that breaks a rule (17).
--- These are definitions: nothing is assumed.
+-- The content of a file, record by record, or the offset of the first record that breaks a rule (17). Definitions: nothing is assumed.
 use Prim.Native.Nat.{ℕ, zero, suc, _+_, _-_}
-use mathlib.Core.Bool.{Bool, true, false, _&&_}
+use mathlib.Core.Bool.{Bool, true, false, _&&_, not}
 use mathlib.Core.List.{List, [], _∷_, _++_}
 use lib.Dec.{leb, ltb, eqb}
 use lib.ListN.{length, getD, drop, replicate}
@@ -9,36 +8,37 @@ use Rattle.terms.specs.Outcome.{Outcome, accepted, refused}
 use Rattle.terms.specs.Numbers.{pick, sum}
 use Rattle.workfile.specs.Numbers.{littleEndian}
 use Rattle.workfile.specs.Content.{Content, mostWords, mostFileLines, sumBound}
-use Rattle.workfile.specs.declared.Plan.{Plan}
-use Rattle.workfile.specs.declared.Tally.{Tally}
-use Rattle.workfile.specs.declared.FileRecord.{FileRecord}
-use Rattle.workfile.specs.declared.FileRecord.the-variants.{Word, Value, ErrorOf, End, Nothing}
+use Rattle.workfile.specs.declared.{Plan.Plan, Tally.Tally, FileRecord.FileRecord}
 
 -- a record's length, and whether it is Z
 abbrev pub size : FileRecord → ℕ
-size (Word w) = 9
-size (Value v) = 9
-size (ErrorOf l e) = 13
-size (End n s) = 13
-size Nothing = 0
+size (FileRecord.Word w) = 9
+size (FileRecord.Value v) = 9
+size (FileRecord.ErrorOf l e) = 13
+size (FileRecord.End n s) = 13
+size FileRecord.Nothing = 0
 
 abbrev pub isEnd : FileRecord → Bool
-isEnd (Word w) = false
-isEnd (Value v) = false
-isEnd (ErrorOf l e) = false
-isEnd (End n s) = true
-isEnd Nothing = false
+isEnd (FileRecord.Word w) = false
+isEnd (FileRecord.Value v) = false
+isEnd (FileRecord.ErrorOf l e) = false
+isEnd (FileRecord.End n s) = true
+isEnd FileRecord.Nothing = false
 
 -- the whole record that stands first in a list of bytes: nothing where it is cut short or of no kind
 abbrev pub whole : ℕ → List ℕ → FileRecord → FileRecord
-whole n bs r = pick (leb n (length bs)) r Nothing
+whole n bs r = pick (leb n (length bs)) r FileRecord.Nothing
 
 unfoldable pub recordOf : List ℕ → FileRecord
 recordOf bs =
-    pick (eqb (getD bs 0 0) 0x57) (whole 9 bs (Word (littleEndian 8 (drop 1 bs))))
-    (pick (eqb (getD bs 0 0) 0x4C) (whole 9 bs (Value (littleEndian 8 (drop 1 bs))))
-    (pick (eqb (getD bs 0 0) 0x45) (whole 13 bs (ErrorOf (littleEndian 4 (drop 1 bs)) (littleEndian 8 (drop 5 bs))))
-    (pick (eqb (getD bs 0 0) 0x5A) (whole 13 bs (End (littleEndian 4 (drop 1 bs)) (littleEndian 8 (drop 5 bs)))) Nothing)))
+    pick (eqb (getD bs 0 0) 0x57) (whole 9 bs (FileRecord.Word (littleEndian 8 (drop 1 bs))))
+    (pick (eqb (getD bs 0 0) 0x4C) (whole 9 bs (FileRecord.Value (littleEndian 8 (drop 1 bs))))
+    (pick (eqb (getD bs 0 0) 0x45) (whole 13 bs (FileRecord.ErrorOf (littleEndian 4 (drop 1 bs)) (littleEndian 8 (drop 5 bs))))
+    (pick (eqb (getD bs 0 0) 0x5A) (whole 13 bs (FileRecord.End (littleEndian 4 (drop 1 bs)) (littleEndian 8 (drop 5 bs)))) FileRecord.Nothing)))
+
+-- the record at a place of a file
+unfoldable pub recordAt : List ℕ → ℕ → FileRecord
+recordAt f at = recordOf (drop at f)
 
 -- the counts of what was read so far
 abbrev pub tallyOf : Content → Tally
@@ -46,11 +46,11 @@ tallyOf c = record { words = length (c .words); lines = length (c .values); sum 
 
 -- whether the rules allow a record after those counted: W before any L, L before any E
 unfoldable pub fits : Tally → FileRecord → Bool
-fits t (Word w) = eqb (t .lines) 0 && ltb (t .words) mostWords
-fits t (Value v) = eqb (t .«next_line») 0 && (ltb (t .lines) mostFileLines && ltb (t .sum + v) sumBound)
-fits t (ErrorOf l e) = leb (t .«next_line») l && (ltb l (t .lines) && ltb 0 e)
-fits t (End n s) = eqb n (t .lines) && eqb s (t .sum)
-fits t Nothing = false
+fits t (FileRecord.Word w) = eqb (t .lines) 0 && ltb (t .words) mostWords
+fits t (FileRecord.Value v) = eqb (t .«next_line») 0 && (ltb (t .lines) mostFileLines && ltb (t .sum + v) sumBound)
+fits t (FileRecord.ErrorOf l e) = leb (t .«next_line») l && (ltb l (t .lines) && ltb 0 e)
+fits t (FileRecord.End n s) = eqb n (t .lines) && eqb s (t .sum)
+fits t FileRecord.Nothing = false
 
 -- lines without E have error 0
 abbrev pub padTo : ℕ → List ℕ → List ℕ
@@ -61,11 +61,11 @@ withErrors c es = record { plan = c .plan; words = c .words; values = c .values;
 
 -- the content with one record more; Z gives the lines that are left their error
 unfoldable pub grow : Content → FileRecord → Content
-grow c (Word w) = record { plan = c .plan; words = c .words ++ (w ∷ []); values = c .values; errors = c .errors }
-grow c (Value v) = record { plan = c .plan; words = c .words; values = c .values ++ (v ∷ []); errors = c .errors }
-grow c (ErrorOf l e) = withErrors c (padTo l (c .errors) ++ (e ∷ []))
-grow c (End n s) = withErrors c (padTo n (c .errors))
-grow c Nothing = c
+grow c (FileRecord.Word w) = record { plan = c .plan; words = c .words ++ (w ∷ []); values = c .values; errors = c .errors }
+grow c (FileRecord.Value v) = record { plan = c .plan; words = c .words; values = c .values ++ (v ∷ []); errors = c .errors }
+grow c (FileRecord.ErrorOf l e) = withErrors c (padTo l (c .errors) ++ (e ∷ []))
+grow c (FileRecord.End n s) = withErrors c (padTo n (c .errors))
+grow c FileRecord.Nothing = c
 
 -- after Z, whose 13 bytes stand at offset at, nothing follows
 abbrev pub closed : Content → ℕ → List ℕ → Outcome Content
@@ -94,3 +94,28 @@ unfoldable pub decode : List ℕ → Outcome Content
 decode f =
     let records = run (length f) (start (planOf f)) 18 (drop 18 f) in
     pick (hasPlan f) records (refused 17 0)
+
+-- Where the whole records that the rules allow end, from the start on and Z left out: what they hold, and the offset after them.
+pub record Stop : Type 0 where
+  pub read : Content
+  pub at : ℕ
+
+-- whether one record more is taken: the rules allow it after those counted, and it is not Z
+abbrev pub readsOn : Tally → FileRecord → Bool
+readsOn t r = fits t r && not (isEnd r)
+
+-- As `run` goes: c was read, and bs is left and stands at offset at.
+unfoldable pub stop : ℕ → Content → ℕ → List ℕ → Stop
+stop zero c at bs = record { read = c; at = at }
+stop (suc k) c at bs =
+    let r = recordOf bs in
+    let more = stop k (grow c r) (at + size r) (drop (size r) bs) in
+    pick (readsOn (tallyOf c) r) more (record { read = c; at = at })
+
+unfoldable pub stopIn : List ℕ → Stop
+stopIn f = stop (length f) (start (planOf f)) 18 (drop 18 f)
+
+-- what the record there decides: Z that the rules allow closes the file, and any other breaks a rule
+unfoldable pub decided : List ℕ → Stop → Outcome Content
+decided f s =
+    pick (fits (tallyOf (s .read)) (recordAt f (s .at))) (closed (grow (s .read) (recordAt f (s .at))) (s .at) (drop (s .at) f)) (refused 17 (s .at))

@@ -1,4 +1,4 @@
--- Little-endian numbers: the number that bytes write, and the bytes that write a number. These are definitions: nothing is assumed.
+-- Little-endian numbers: the number that bytes write, and the bytes that write a number. Definitions: nothing is assumed.
 use Prim.Native.Nat.{ℕ, zero, suc, _+_, _*_, _/_, _%_, _<_}
 use mathlib.Core.List.{List, [], _∷_}
 use lib.ListN.{getD, drop}

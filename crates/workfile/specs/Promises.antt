@@ -1,4 +1,4 @@
--- What the reader and the writer promise: the answer, and every lent buffer afterwards. These are definitions: nothing is assumed.
+-- What the reader and the writer promise: the answer, and every lent buffer afterwards. Definitions: nothing is assumed.
 use Prim.Native.Nat.{ℕ, _≤_}
 use mathlib.Core.Path.{_≡_}
 use mathlib.Core.Bool.{Bool, _&&_}
@@ -9,12 +9,7 @@ use Rattle.terms.specs.Outcome.{Outcome, accepted, refused, refusedBy, after, l
 use Rattle.terms.specs.Numbers.{pick, sum}
 use Rattle.workfile.specs.Content.{Content, mostWords, mostFileLines, sumBound, encode}
 use Rattle.workfile.specs.Decode.{decode}
-use Rattle.workfile.specs.declared.Plan.{Plan}
-use Rattle.workfile.specs.declared.Contents.{Contents}
-use Rattle.workfile.specs.declared.ReadAnswer.{ReadAnswer}
-use Rattle.workfile.specs.declared.ReadAnswer.the-variants as read
-use Rattle.workfile.specs.declared.WriteAnswer.{WriteAnswer}
-use Rattle.workfile.specs.declared.WriteAnswer.the-variants as write
+use Rattle.workfile.specs.declared.{Plan.Plan, Contents.Contents, ReadAnswer.ReadAnswer, WriteAnswer.WriteAnswer}
 
 -- entries past the new ones stay untouched
 abbrev pub over : List ℕ → List ℕ → List ℕ
@@ -22,8 +17,8 @@ over new old = new ++ drop (length new) old
 
 -- what the reader's answer says: level, TE, AE and the counts
 abbrev pub readSays : ReadAnswer → Outcome Contents
-readSays (read.Read contents) = accepted contents
-readSays (read.Refused why) = refusedBy why
+readSays (ReadAnswer.Read contents) = accepted contents
+readSays (ReadAnswer.Refused why) = refusedBy why
 
 abbrev pub counted : Content → Contents
 counted c = record { level = c .plan .level; te = c .plan .te; ae = c .plan .ae; words = length (c .words); lines = length (c .values) }
@@ -56,8 +51,8 @@ pub record ReadPromise (file words values errors : List ℕ) (r : ReadAnswer) (w
 
 -- what the writer's answer says: the length
 abbrev pub writeSays : WriteAnswer → Outcome ℕ
-writeSays (write.Written length) = accepted length
-writeSays (write.Refused why) = refusedBy why
+writeSays (WriteAnswer.Written length) = accepted length
+writeSays (WriteAnswer.Refused why) = refusedBy why
 
 -- whether a content has a legal file
 abbrev pub hasFile : Content → Bool

@@ -6,12 +6,12 @@ ghost use mathlib.Core.List.{[], _∷_};
 ghost use Prim.Native.Nat.{_+_, _*_, _≤_};
 ghost use lib.ListN.{length};
 ghost use Rattle.workfile.specs.Content.{errorRecords};
-ghost use Rattle.writer.specs.Parts.{Wrote, rows, errorBytes, totalOf};
+ghost use Rattle.writer.specs.Parts.{Laid, rows, errorBytes, totalOf};
 
 // A record of one kind for each number of a list.
 pub fn put_list(file: &mut [u8], at: usize, kind: u8, list: &[u64]) -> usize
     requires { ⌜ at + 9 * length (now list) ≤ length (now file) ⌝ }
-    ensures { λ r. ⌜ Wrote (now (file .entry)) at (rows kind (now (list .entry))) (now (file .exit)) r ⌝ }
+    ensures { λ r. ⌜ Laid (now (file .entry)) at (rows kind (now (list .entry))) (now (file .exit)) r ⌝ }
 {
     let mut i = 0;
     let mut to = at;
@@ -25,7 +25,7 @@ pub fn put_list(file: &mut [u8], at: usize, kind: u8, list: &[u64]) -> usize
 // An E, where the error is above 0.
 fn put_error(file: &mut [u8], at: usize, line: usize, error: u64) -> usize
     requires { ⌜ at + length (errorBytes line (error ∷ [])) ≤ length (now file) ⌝ }
-    ensures { λ r. ⌜ Wrote (now (file .entry)) at (errorBytes line (error ∷ [])) (now (file .exit)) r ⌝ }
+    ensures { λ r. ⌜ Laid (now (file .entry)) at (errorBytes line (error ∷ [])) (now (file .exit)) r ⌝ }
 {
     if error == 0 {
         return at;
@@ -36,7 +36,7 @@ fn put_error(file: &mut [u8], at: usize, line: usize, error: u64) -> usize
 // An E for each error above 0.
 pub fn put_errors(file: &mut [u8], at: usize, errors: &[u64]) -> usize
     requires { ⌜ at + length (errorBytes 0 (now errors)) ≤ length (now file) ⌝ }
-    ensures { λ r. ⌜ Wrote (now (file .entry)) at (errorBytes 0 (now (errors .entry))) (now (file .exit)) r ⌝ }
+    ensures { λ r. ⌜ Laid (now (file .entry)) at (errorBytes 0 (now (errors .entry))) (now (file .exit)) r ⌝ }
 {
     let mut line = 0;
     let mut to = at;

@@ -34,50 +34,22 @@ module _ (a b : ℕ) (h : a ≤ 8407) (g : b ≤ 8407) where
   worth : toZ w64 (ofZ w64 (toZ w64 (ofZ w64 (toZ w64 a -ℤ toZ w64 b)) -ℤ pos 100)) ≡ (pos a -ℤ pos b) -ℤ pos 100
   worth = rw (toZ-ofZ differ-2, toZ-ofZ differ, small a h, small b g)
 
-returns : tie.Need-returns
-returns c = sym (step-none _ _ (c .if1 .taken))
-
-returns-2 : tie.Need-returns-2
-returns-2 c = sym (step-past _ _ (c .if2 .taken))
-
-reliability-requires : tie.Need-reliability-requires
-reliability-requires c κs = search needs
-
-cast-factor : tie.Need-cast-factor
-cast-factor c = record { sfits = omega (arith, top (c .reliability .ensures)) }
-
-sub-reliability : tie.Need-sub-reliability
-sub-reliability c = search needs
-
-reliability-requires-2 : tie.Need-reliability-requires-2
-reliability-requires-2 c κs = search needs
-
-cast-former : tie.Need-cast-former
-cast-former c = record { sfits = omega (arith, top (c .reliability2 .ensures)) }
-
-sub-result : tie.Need-sub-result
-sub-result c = differ _ _ (top (c .before .reliability .ensures)) (top (c .reliability2 .ensures))
-
-sub-result-2 : tie.Need-sub-result-2
-sub-result-2 c = differ-2 _ _ (top (c .before .reliability .ensures)) (top (c .reliability2 .ensures))
-
 returns-3 : tie.Need-returns-3
 returns-3 c =
     worth _ _ (top (c .before .reliability .ensures)) (top (c .reliability2 .ensures))
     ∙ ap₂ (λ (a b : ℕ). (pos a -ℤ pos b) -ℤ pos 100) (c .before .reliability .ensures .value) (c .reliability2 .ensures .value)
-    ∙ sym (step-at _ _ (c .before .before .before .if1 .left) (c .before .before .if2 .left))
+    ∙ sym (step-at _ _ (search) (omega arith))
 
 pub step-spec : {M : Type 1} → statement M
 step-spec =
     tie.close
     (tie.spec
-    returns
-    returns-2
-    reliability-requires
-    cast-factor
-    sub-reliability
-    reliability-requires-2
-    cast-former
-    sub-result
-    sub-result-2
+    (λ c. sym (step-none _ _ (c .if1 .taken)))
+    (λ c. sym (step-past _ _ (c .if2 .taken)))
+    (λ c. search needs)
+    (λ c. record { sfits = omega (arith, top (c .reliability .ensures)) })
+    (λ c. search needs) (λ c. search needs)
+    (λ c. record { sfits = omega (arith, top (c .reliability2 .ensures)) })
+    (λ c. differ _ _ (top (c .before .reliability .ensures)) (top (c .reliability2 .ensures)))
+    (λ c. differ-2 _ _ (top (c .before .reliability .ensures)) (top (c .reliability2 .ensures)))
     returns-3)

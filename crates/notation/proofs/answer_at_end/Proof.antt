@@ -1,16 +1,14 @@
--- `notation::answer_at_end` meets its contract: the test that led to a `return` is the one of `endOf`. Assumes nothing.
-use borrow.Author.Tests.{eq-eqb, ne-eqb}
-use Rattle.notation.specs.Steps.{endOf}
+-- `notation::answer_at_end` meets its contract: the test is that of `endOf`. Assumes nothing.
+use borrow.Author.Needs.{needs}
+use Rattle.notation.proofs.Passing.{ends-faulty, ends-well}
 use Rattle.notation.proofs.answer_at_end.Statement.{statement}
 use Rattle.notation.proofs.answer_at_end.Tie as tie
 
 returns : tie.Need-returns
-unfolding endOf
-returns c = simp (eq-eqb _ _ (c .if1 .taken))
+returns c = search (needs, ends-faulty)
 
 returns-2 : tie.Need-returns-2
-unfolding endOf
-returns-2 c = simp (ne-eqb _ _ (c .if1 .left))
+returns-2 c = search (needs, ends-well)
 
 pub answer-at-end-spec : {M : Type 1} → statement M
 answer-at-end-spec = tie.close (tie.spec returns returns-2)

@@ -1,9 +1,6 @@
 -- `pack::pack` is safe and ends: the parser's counts fit the buffers that it leaves. Assumes nothing.
 use borrow.Author.Needs.{needs}
-use mathlib.Core.Path.{sym}
-use lib.Seq.{length-take-le}
-use Rattle.pack.proofs.Fits.{parsed-fits}
-use native.Mathlib.Omega.{arith}
+use Rattle.pack.proofs.Fits.{words-fit, values-fit, errors-fit, part-long}
 use Rattle.pack.proofs.pack.Statement.{statement}
 use Rattle.pack.proofs.pack.Tie as tie
 
@@ -29,22 +26,22 @@ enum-known-contents : tie.Need-enum-known-contents
 enum-known-contents c = search needs
 
 array-share-prefix-words : tie.Need-array-share-prefix-words
-array-share-prefix-words c = (parsed-fits _ (c .before .before .before .before .before .before .parse .ensures) (c .before .contents .given .1)) .words
+array-share-prefix-words c = search (needs, words-fit)
 
 slice-aggregate-put-file : tie.Need-slice-aggregate-put-file
-slice-aggregate-put-file c = sym (length-take-le _ _ (array-share-prefix-words (c .before)))
+slice-aggregate-put-file c = search (needs, part-long, words-fit)
 
 array-share-prefix-values : tie.Need-array-share-prefix-values
-array-share-prefix-values c = (parsed-fits _ (c .before .before .before .before .before .before .before .parse .ensures) (c .before .before .contents .given .1)) .lines
+array-share-prefix-values c = search (needs, values-fit)
 
 slice-aggregate-put-file-2 : tie.Need-slice-aggregate-put-file-2
-slice-aggregate-put-file-2 c = sym (length-take-le _ _ (array-share-prefix-values (c .before)))
+slice-aggregate-put-file-2 c = search (needs, part-long, values-fit)
 
 array-share-prefix-errors : tie.Need-array-share-prefix-errors
-array-share-prefix-errors c = omega (arith, (parsed-fits _ (c .before .before .before .before .before .before .before .before .parse .ensures) (c .before .before .before .contents .given .1)) .lines)
+array-share-prefix-errors c = search (needs, errors-fit)
 
 slice-aggregate-put-file-3 : tie.Need-slice-aggregate-put-file-3
-slice-aggregate-put-file-3 c = sym (length-take-le _ _ (array-share-prefix-errors (c .before)))
+slice-aggregate-put-file-3 c = search (needs, part-long, errors-fit)
 
 put-file-requires : tie.Need-put-file-requires
 put-file-requires c κs = search needs

@@ -1,8 +1,6 @@
 -- `pack::put_file` is safe and ends: the writer's count fits the file that it leaves. Assumes nothing.
 use borrow.Author.Needs.{needs}
-use mathlib.Core.Path.{sym}
-use lib.Seq.{length-take-le}
-use Rattle.pack.proofs.Fits.{written-fits}
+use Rattle.pack.proofs.Fits.{written-fits, part-long}
 use Rattle.pack.proofs.put_file.Statement.{statement}
 use Rattle.pack.proofs.put_file.Tie as tie
 
@@ -16,10 +14,10 @@ enum-known-length : tie.Need-enum-known-length
 enum-known-length c = search needs
 
 array-share-prefix-file : tie.Need-array-share-prefix-file
-array-share-prefix-file c = written-fits _ (c .before .before .before .before .write .ensures) (c .before .length .given .1)
+array-share-prefix-file c = search (needs, written-fits)
 
 slice-aggregate-write-all : tie.Need-slice-aggregate-write-all
-slice-aggregate-write-all c = sym (length-take-le _ _ (array-share-prefix-file (c .before)))
+slice-aggregate-write-all c = search (needs, part-long, written-fits)
 
 write-all-requires : tie.Need-write-all-requires
 write-all-requires c κs = search needs

@@ -1,7 +1,6 @@
 -- `records::record_at` meets its contract: the kind and the bytes left say which record stands there. Assumes nothing.
 use borrow.Author.Needs.{needs}
-use native.Mathlib.Omega.{arith}
-use Rattle.records.proofs.Finding.{no-nine, no-thirteen, no-kind, word-at, value-at, error-at, end-at}
+use Rattle.workfile.proofs.Finding.{no-nine, no-thirteen, no-kind, word-at, value-at, error-at, end-at}
 use Rattle.records.proofs.record_at.Statement.{statement}
 use Rattle.records.proofs.record_at.Tie as tie
 
@@ -9,7 +8,7 @@ sub-left : tie.Need-sub-left
 sub-left c = search needs
 
 returns : tie.Need-returns
-returns c = no-nine _ _ (omega arith)
+returns c = search (needs, no-nine)
 
 shared-slice-read-kind : tie.Need-shared-slice-read-kind
 shared-slice-read-kind c = search needs
@@ -21,7 +20,7 @@ eight-bytes-requires : tie.Need-eight-bytes-requires
 eight-bytes-requires c κs = search needs
 
 returns-2 : tie.Need-returns-2
-returns-2 c = word-at _ _ _ (omega arith) (omega arith) (c .eight-bytes .ensures)
+returns-2 c = search (needs, word-at)
 
 add-eight-bytes-2 : tie.Need-add-eight-bytes-2
 add-eight-bytes-2 c = search needs
@@ -30,10 +29,10 @@ eight-bytes-requires-2 : tie.Need-eight-bytes-requires-2
 eight-bytes-requires-2 c κs = search needs
 
 returns-3 : tie.Need-returns-3
-returns-3 c = value-at _ _ _ (omega arith) (omega arith) (c .eight-bytes2 .ensures)
+returns-3 c = search (needs, value-at)
 
 returns-4 : tie.Need-returns-4
-returns-4 c = no-thirteen _ _ (omega arith) (omega arith) (omega arith)
+returns-4 c = search (needs, no-thirteen)
 
 add-four-bytes : tie.Need-add-four-bytes
 add-four-bytes c = search needs
@@ -48,7 +47,7 @@ eight-bytes-requires-3 : tie.Need-eight-bytes-requires-3
 eight-bytes-requires-3 c κs = search needs
 
 returns-5 : tie.Need-returns-5
-returns-5 c = error-at _ _ _ _ (omega arith) (omega arith) (c .before .four-bytes .ensures .0) (c .eight-bytes3 .ensures)
+returns-5 c = search (needs, error-at)
 
 add-four-bytes-2 : tie.Need-add-four-bytes-2
 add-four-bytes-2 c = search needs
@@ -63,10 +62,10 @@ eight-bytes-requires-4 : tie.Need-eight-bytes-requires-4
 eight-bytes-requires-4 c κs = search needs
 
 returns-6 : tie.Need-returns-6
-returns-6 c = end-at _ _ _ _ (omega arith) (omega arith) (c .before .four-bytes2 .ensures .0) (c .eight-bytes4 .ensures)
+returns-6 c = search (needs, end-at)
 
 returns-7 : tie.Need-returns-7
-returns-7 c = no-kind _ _ (omega arith) (omega arith) (omega arith) (omega arith)
+returns-7 c = search (needs, no-kind)
 
 pub record-at-spec : {M : Type 1} → statement M
 record-at-spec =

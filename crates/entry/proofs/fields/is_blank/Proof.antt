@@ -1,4 +1,5 @@
 -- `entry::fields::is_blank` meets its contract: the tests that led to a `return` are those of `blank`. Assumes nothing.
+use borrow.Author.Needs.{needs}
 use borrow.Author.Tests.{eq-eqb, ne-eqb}
 use Rattle.entry.specs.Text.{blank}
 use Rattle.entry.proofs.fields.is_blank.Statement.{statement}
@@ -6,15 +7,15 @@ use Rattle.entry.proofs.fields.is_blank.Tie as tie
 
 returns : tie.Need-returns
 unfolding blank
-returns c = simp (eq-eqb _ _ (c .if1 .taken))
+returns c = search (needs, eq-eqb)
 
 returns-2 : tie.Need-returns-2
 unfolding blank
-returns-2 c = simp (ne-eqb _ _ (c .before .if1 .left), eq-eqb _ _ (c .if2 .taken))
+returns-2 c = search (needs, eq-eqb, ne-eqb)
 
 returns-3 : tie.Need-returns-3
 unfolding blank
-returns-3 c = simp (ne-eqb _ _ (c .before .if1 .left), ne-eqb _ _ (c .if2 .left))
+returns-3 c = search (needs, ne-eqb)
 
 pub is-blank-spec : {M : Type 1} → statement M
 is-blank-spec = tie.close (tie.spec returns returns-2 returns-3)

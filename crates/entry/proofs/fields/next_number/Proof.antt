@@ -1,6 +1,5 @@
 -- `entry::fields::next_number` meets its contract: the blanks are passed, then the field. Assumes nothing.
 use borrow.Author.Needs.{needs}
-use native.Mathlib.Omega.{arith}
 use Rattle.entry.proofs.Lines.{number-missing, number-wrong, number-read}
 use Rattle.entry.proofs.fields.next_number.Statement.{statement}
 use Rattle.entry.proofs.fields.next_number.Tie as tie
@@ -9,7 +8,7 @@ reach-requires : tie.Need-reach-requires
 reach-requires c κs = search needs
 
 returns : tie.Need-returns
-returns c = number-missing (c .before .reach .ensures) (c .if1 .taken)
+returns c = search (needs, number-missing)
 
 reach-requires-2 : tie.Need-reach-requires-2
 reach-requires-2 c κs = search needs
@@ -33,18 +32,10 @@ enum-known-value : tie.Need-enum-known-value
 enum-known-value c = search needs
 
 returns-2 : tie.Need-returns-2
-returns-2 c =
-    let read = c .before .before .before in
-    let field = read .before .before in
-    let blanks = field .before .before in
-    number-wrong (blanks .reach .ensures) (omega arith) (field .reach2 .ensures) (read .number-of .ensures) (c .before .wrong .given .1)
+returns-2 c = search (needs, number-wrong)
 
 returns-3 : tie.Need-returns-3
-returns-3 c =
-    let read = c .before .before .before in
-    let field = read .before .before in
-    let blanks = field .before .before in
-    number-read (blanks .reach .ensures) (omega arith) (field .reach2 .ensures) (read .number-of .ensures) (c .before .value .given .1)
+returns-3 c = search (needs, number-read)
 
 pub next-number-spec : {M : Type 1} → statement M
 next-number-spec =

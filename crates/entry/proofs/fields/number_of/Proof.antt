@@ -8,12 +8,6 @@ use lib.ListN.{length}
 use Rattle.entry.proofs.fields.number_of.Statement.{statement}
 use Rattle.entry.proofs.fields.number_of.Tie as tie
 
--- the length. Assumes nothing.
-
--- is left of the length. Assumes nothing.
-
--- is left of the length. Assumes nothing.
-
 abbrev Inv-loop : tie.InvT-loop
 Inv-loop field value₀ at₀ value at = Counted field value at
 
@@ -23,23 +17,23 @@ abbrev μ-loop : tie.MeasureT-loop
 loop-holds : tie.Need-loop-holds Inv-loop μ-loop
 loop-holds c = none-counted _
 
-shared-slice-read-wide : tie.Need-shared-slice-read-wide Inv-loop μ-loop
-shared-slice-read-wide c = search needs
+shared-slice-read-widen : tie.Need-shared-slice-read-widen Inv-loop μ-loop
+shared-slice-read-widen c = search needs
 
-wide-requires : tie.Need-wide-requires Inv-loop μ-loop
-wide-requires c κs = search needs
+widen-requires : tie.Need-widen-requires Inv-loop μ-loop
+widen-requires c κs = search needs
 
 returns : tie.Need-returns Inv-loop μ-loop
-returns c = too-low (c .before .before .before .before .loop .inv) (search needs) (c .before .wide .ensures .0) (c .if1 .taken)
+returns c = search (needs, too-low)
 
 returns-2 : tie.Need-returns-2 Inv-loop μ-loop
-returns-2 c = too-high (c .before .before .before .before .before .loop .inv) (search needs) (c .before .before .wide .ensures .0) (search needs) (search needs)
+returns-2 c = search (needs, too-high)
 
 sub-if3 : tie.Need-sub-if3 Inv-loop μ-loop
 sub-if3 c = omega arith
 
 returns-3 : tie.Need-returns-3 Inv-loop μ-loop
-returns-3 c = too-large (c .before .before .before .before .before .before .loop .inv) (search needs) (c .before .before .before .wide .ensures .0) (search needs) (search needs) (omega arith)
+returns-3 c = search (needs, too-large)
 
 mul-value : tie.Need-mul-value Inv-loop μ-loop
 mul-value c = omega arith
@@ -54,10 +48,10 @@ loop-less : tie.Need-loop-less Inv-loop μ-loop
 loop-less c = search needs
 
 loop-again : tie.Need-loop-again Inv-loop μ-loop
-loop-again c = one-digit (c .before .before .before .before .before .before .loop .inv) (search needs) (c .before .before .before .wide .ensures .0) (search needs) (search needs) (omega arith)
+loop-again c = search (needs, one-digit)
 
 returns-4 : tie.Need-returns-4 Inv-loop μ-loop
-returns-4 c = all-counted (c .before .loop .inv) (c .loop-test .left)
+returns-4 c = search (needs, all-counted)
 
 pub number-of-spec : {M : Type 1} → statement M
 number-of-spec =
@@ -66,8 +60,8 @@ number-of-spec =
     Inv-loop
     μ-loop
     loop-holds
-    shared-slice-read-wide
-    wide-requires
+    shared-slice-read-widen
+    widen-requires
     returns
     returns-2
     sub-if3

@@ -1,8 +1,7 @@
 -- `pen::Pen::number` meets its contract, by recursion; the number falls. Assumes nothing.
 use borrow.Author.Needs.{needs}
 use native.Mathlib.Omega.{arith}
-use Rattle.pen.proofs.Decimals.{decimal-small, decimal-more}
-use Rattle.pen.proofs.Writing.{_⨾_}
+use Rattle.pen.proofs.Writing.{small-laid, more-laid}
 use Prim.Native.Nat.{ℕ, _<_}
 use borrow.Fn.Kinds.{In}
 use borrow.Fn.PlainCycle.{Measures, is, falls, and}
@@ -22,103 +21,45 @@ number-at t = and 1 number-kinds.ps (is 1 number-kinds.ps μ-number t) number.Pr
 abbrev number-below : ℕ → In 1 number-kinds.ps
 number-below t = and 1 number-kinds.ps (falls 1 number-kinds.ps _<_ μ-number t) number.Pre
 
-number-cast-byte : (t : ℕ) → number-lts.Need-cast-byte (
-  byte-reads.Asked,
-  byte-reads.Learnt,
-  number-below t,
-  number.Post,
-) (number-at t) number.Post
+-- what is known of the calls: a byte, and a smaller number
+abbrev calls : ℕ → number-lts.Claims
+calls t = (byte-reads.Asked, byte-reads.Learnt, number-below t, number.Post)
+
+number-cast-byte : (t : ℕ) → number-lts.Need-cast-byte (calls t) (number-at t) number.Post
 number-cast-byte t c = search needs
 
-number-add-byte : (t : ℕ) → number-lts.Need-add-byte (
-  byte-reads.Asked,
-  byte-reads.Learnt,
-  number-below t,
-  number.Post,
-) (number-at t) number.Post
+number-add-byte : (t : ℕ) → number-lts.Need-add-byte (calls t) (number-at t) number.Post
 number-add-byte t c = search needs
 
-number-byte-requires : (t : ℕ) → number-lts.Need-byte-requires (
-  byte-reads.Asked,
-  byte-reads.Learnt,
-  number-below t,
-  number.Post,
-) (number-at t) number.Post
+number-byte-requires : (t : ℕ) → number-lts.Need-byte-requires (calls t) (number-at t) number.Post
 number-byte-requires t c κs = search needs
 
-number-same-length : (t : ℕ) → number-lts.Need-same-length (
-  byte-reads.Asked,
-  byte-reads.Learnt,
-  number-below t,
-  number.Post,
-) (number-at t) number.Post
+number-same-length : (t : ℕ) → number-lts.Need-same-length (calls t) (number-at t) number.Post
 number-same-length t c = search needs
 
-number-returns : (t : ℕ) → number-lts.Need-returns (
-  byte-reads.Asked,
-  byte-reads.Learnt,
-  number-below t,
-  number.Post,
-) (number-at t) number.Post
-number-returns t c = rw (decimal-small (c .before .before .before .before .before .before .args .n) (search needs)) (c .before .before .byte .ensures)
+number-returns : (t : ℕ) → number-lts.Need-returns (calls t) (number-at t) number.Post
+number-returns t c = search (needs, small-laid)
 
-number-number-requires : (t : ℕ) → number-lts.Need-number-requires (
-  byte-reads.Asked,
-  byte-reads.Learnt,
-  number-below t,
-  number.Post,
-) (number-at t) number.Post
+number-number-requires : (t : ℕ) → number-lts.Need-number-requires (calls t) (number-at t) number.Post
 number-number-requires t c κs = (omega (arith, c .before .before .before .pre .0), tt)
 
-number-cast-byte-2 : (t : ℕ) → number-lts.Need-cast-byte-2 (
-  byte-reads.Asked,
-  byte-reads.Learnt,
-  number-below t,
-  number.Post,
-) (number-at t) number.Post
+number-cast-byte-2 : (t : ℕ) → number-lts.Need-cast-byte-2 (calls t) (number-at t) number.Post
 number-cast-byte-2 t c = search needs
 
-number-add-byte-2 : (t : ℕ) → number-lts.Need-add-byte-2 (
-  byte-reads.Asked,
-  byte-reads.Learnt,
-  number-below t,
-  number.Post,
-) (number-at t) number.Post
+number-add-byte-2 : (t : ℕ) → number-lts.Need-add-byte-2 (calls t) (number-at t) number.Post
 number-add-byte-2 t c = search needs
 
-number-byte-requires-2 : (t : ℕ) → number-lts.Need-byte-requires-2 (
-  byte-reads.Asked,
-  byte-reads.Learnt,
-  number-below t,
-  number.Post,
-) (number-at t) number.Post
+number-byte-requires-2 : (t : ℕ) → number-lts.Need-byte-requires-2 (calls t) (number-at t) number.Post
 number-byte-requires-2 t c κs = search needs
 
-number-same-length-2 : (t : ℕ) → number-lts.Need-same-length-2 (
-  byte-reads.Asked,
-  byte-reads.Learnt,
-  number-below t,
-  number.Post,
-) (number-at t) number.Post
+number-same-length-2 : (t : ℕ) → number-lts.Need-same-length-2 (calls t) (number-at t) number.Post
 number-same-length-2 t c = search needs
 
-number-returns-2 : (t : ℕ) → number-lts.Need-returns-2 (
-  byte-reads.Asked,
-  byte-reads.Learnt,
-  number-below t,
-  number.Post,
-) (number-at t) number.Post
-number-returns-2 t c =
-    let o = c .before .before .before .before .before .before .before .before .before .before in
-    rw (decimal-more (o .args .n) (search needs)) (c .before .before .before .before .before .before .number .ensures ⨾ c .before .before .byte2 .ensures)
+number-returns-2 : (t : ℕ) → number-lts.Need-returns-2 (calls t) (number-at t) number.Post
+number-returns-2 t c = search (needs, more-laid)
 
 pub +number-spec : {M : Type 1} → statement M
-+number-spec = close μ-number λ t. number-lts.spec (
-  byte-reads.Asked,
-  byte-reads.Learnt,
-  number-below t,
-  number.Post,
-)
++number-spec = close μ-number λ t. number-lts.spec (calls t)
     (number-at t)
     number.Post
     (number-cast-byte t)

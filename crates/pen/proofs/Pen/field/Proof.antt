@@ -1,6 +1,6 @@
 -- `pen::Pen::field` meets its contract: a space, then a number. Assumes nothing.
 use borrow.Author.Needs.{needs}
-use Rattle.pen.proofs.Writing.{_⨾_}
+use Rattle.pen.proofs.Writing.{after-space}
 use Rattle.pen.proofs.Pen.field.Statement.{statement}
 use Rattle.pen.proofs.Pen.field.Tie as tie
 
@@ -14,7 +14,7 @@ same-length : tie.Need-same-length
 same-length c = search needs
 
 returns : tie.Need-returns
-returns c = c .before .before .before .before .before .before .byte .ensures ⨾ c .before .before .number .ensures
+returns c = search (needs, after-space)
 
 pub field-spec : {M : Type 1} → statement M
 field-spec = tie.close (tie.spec byte-requires number-requires same-length returns)

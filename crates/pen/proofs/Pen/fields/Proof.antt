@@ -4,7 +4,7 @@ use borrow.Author.Needs.{needs}
 use Prim.Native.Nat.{_≤_, _-_}
 use lib.ListN.{length, drop}
 use Rattle.pen.specs.Text.{fields}
-use Rattle.pen.proofs.Writing.{Left, left-all, left-more, left-none, fields-more, fields-none}
+use Rattle.pen.proofs.Writing.{Left, left-all, field-laid, fields-laid}
 use Rattle.pen.proofs.Pen.fields.Statement.{statement}
 use Rattle.pen.proofs.Pen.fields.Tie as tie
 
@@ -33,15 +33,13 @@ loop-less : tie.Need-loop-less Inv-loop μ-loop
 loop-less c = search needs
 
 loop-again : tie.Need-loop-again Inv-loop μ-loop
-loop-again c =
-    let turn = c .before .before .before .before .before in
-    (search needs, left-more (turn .before .loop .inv .1) (fields-more _ _ (turn .loop-test .taken)) (c .before .before .field .ensures))
+loop-again c = (search needs, search (needs, field-laid))
 
 same-length : tie.Need-same-length Inv-loop μ-loop
 same-length c = search needs
 
 returns : tie.Need-returns Inv-loop μ-loop
-returns c = left-none (c .before .loop .inv .1) (fields-none _ _ (c .loop-test .left))
+returns c = search (needs, fields-laid)
 
 pub fields-spec : {M : Type 1} → statement M
 fields-spec =

@@ -1,5 +1,5 @@
 -- `pen::Pen::line` meets its contract: the word, the numbers, the end of the line. Assumes nothing.
-use Rattle.pen.proofs.Writing.{_⨾_, line-parts}
+use Rattle.pen.proofs.Writing.{line-laid}
 use borrow.Author.Needs.{needs}
 use Rattle.pen.proofs.Pen.line.Statement.{statement}
 use Rattle.pen.proofs.Pen.line.Tie as tie
@@ -17,10 +17,7 @@ same-length : tie.Need-same-length
 same-length c = search needs
 
 returns : tie.Need-returns
-returns c =
-    let filled = c .before .before .before .before .before .before in
-    let opened = filled .before .before .before .before in
-    rw line-parts (opened .text .ensures ⨾ filled .fields .ensures ⨾ c .before .before .byte .ensures)
+returns c = search (needs, line-laid)
 
 pub line-spec : {M : Type 1} → statement M
 line-spec = tie.close (tie.spec text-requires fields-requires byte-requires same-length returns)

@@ -3,7 +3,7 @@
 use borrow.Author.Needs.{needs}
 use Prim.Native.Nat.{_≤_, _-_}
 use lib.ListN.{length, drop}
-use Rattle.pen.proofs.Writing.{Left, left-all, left-more, left-none, bytes-more, bytes-none}
+use Rattle.pen.proofs.Writing.{Left, left-all, byte-laid, bytes-laid}
 use Rattle.pen.proofs.Pen.text.Statement.{statement}
 use Rattle.pen.proofs.Pen.text.Tie as tie
 
@@ -29,15 +29,13 @@ loop-less : tie.Need-loop-less Inv-loop μ-loop
 loop-less c = search needs
 
 loop-again : tie.Need-loop-again Inv-loop μ-loop
-loop-again c =
-    let turn = c .before .before .before .before .before in
-    (search needs, left-more (turn .before .loop .inv .1) (bytes-more _ _ (turn .loop-test .taken)) (c .before .before .byte .ensures))
+loop-again c = (search needs, search (needs, byte-laid))
 
 same-length : tie.Need-same-length Inv-loop μ-loop
 same-length c = search needs
 
 returns : tie.Need-returns Inv-loop μ-loop
-returns c = left-none (c .before .loop .inv .1) (bytes-none _ _ (c .loop-test .left))
+returns c = search (needs, bytes-laid)
 
 pub text-spec : {M : Type 1} → statement M
 text-spec =

@@ -1,10 +1,10 @@
 -- `reader::storing::store` meets its contract. The invariant: the pass stands where the content read so far ends, and the buffers hold
 -- that content. The measure is what is left of the file. Assumes nothing.
 use borrow.Author.Needs.{needs}
-use native.Mathlib.Omega.{arith}
 use Prim.Native.Nat.{_-_}
+use native.Mathlib.Omega.{arith}
 use lib.ListN.{length}
-use Rattle.reader.proofs.Second.{Storing, legal-plan, sets-out, ready, goes-on, some-bytes, same-lengths, arrives}
+use Rattle.reader.proofs.Second.{Storing, plan-long, sets-out, ready, goes-on, closer, same-words, same-values, same-errors, arrives}
 use Rattle.reader.proofs.storing.store.Statement.{statement}
 use Rattle.reader.proofs.storing.store.Tie as tie
 
@@ -15,58 +15,37 @@ abbrev μ-loop : tie.MeasureT-loop
 μ-loop file words₀ values₀ errors₀ at₀ tally₀ words values errors at tally = length file - at
 
 loop-holds : tie.Need-loop-holds Inv-loop μ-loop
-loop-holds c = sets-out _ _ _ _ (c .before .before .before .before .pre .0)
+loop-holds c = search sets-out
 
 step-requires : tie.Need-step-requires Inv-loop μ-loop
-step-requires c κs =
-    let at-loop = c .before .before .before in
-    let pre = at-loop .before .before .before .before .before .pre in
-    ready (at-loop .loop .inv) (pre .1) (pre .0)
+step-requires c κs = search (needs, ready)
 
 enum-known-judged : tie.Need-enum-known-judged Inv-loop μ-loop
 enum-known-judged c = search needs
 
 loop-again : tie.Need-loop-again Inv-loop μ-loop
-loop-again c =
-    let at-loop = c .before .before .before .before .before .before .before .before .before .before .before .before .before in
-    let pre = at-loop .before .before .before .before .before .pre in
-    goes-on (at-loop .loop .inv) (pre .1) (pre .0) (c .before .before .before .before .before .before .before .before .before .step .ensures) _ _ (c .before .judged .given .1)
+loop-again c = search goes-on
 
 add-at : tie.Need-add-at Inv-loop μ-loop
-add-at c = omega (arith, loop-again c .place .within)
+add-at c = omega (arith, loop-again c .stands .place .within)
 
 loop-less : tie.Need-loop-less Inv-loop μ-loop
-loop-less c =
-    let at-loop = c .before .before .before .before .before .before .before .before .before .before .before .before .before in
-    let pre = at-loop .before .before .before .before .before .pre in
-    omega (arith, loop-again c .place .within, some-bytes (at-loop .loop .inv) (pre .1) (pre .0) (c .before .before .before .before .before .before .before .before .before .step .ensures) _ _ (c .before .judged .given .1))
+loop-less c = search closer
 
 contents-requires : tie.Need-contents-requires Inv-loop μ-loop
-contents-requires c κs = legal-plan _ (c .before .before .before .before .before .before .before .before .before .before .before .before .before .before .before .before .pre .0) .1
+contents-requires c κs = search plan-long
 
 same-length : tie.Need-same-length Inv-loop μ-loop
-same-length c =
-    let at-loop = c .before .before .before .before .before .before .before .before .before .before .before .before in
-    let pre = at-loop .before .before .before .before .before .pre in
-    same-lengths (at-loop .loop .inv) (pre .1) (pre .0) (c .before .before .before .before .before .before .before .before .step .ensures) .words
+same-length c = search same-words
 
 same-length-2 : tie.Need-same-length-2 Inv-loop μ-loop
-same-length-2 c =
-    let at-loop = c .before .before .before .before .before .before .before .before .before .before .before .before in
-    let pre = at-loop .before .before .before .before .before .pre in
-    same-lengths (at-loop .loop .inv) (pre .1) (pre .0) (c .before .before .before .before .before .before .before .before .step .ensures) .values
+same-length-2 c = search same-values
 
 same-length-3 : tie.Need-same-length-3 Inv-loop μ-loop
-same-length-3 c =
-    let at-loop = c .before .before .before .before .before .before .before .before .before .before .before .before in
-    let pre = at-loop .before .before .before .before .before .pre in
-    same-lengths (at-loop .loop .inv) (pre .1) (pre .0) (c .before .before .before .before .before .before .before .before .step .ensures) .errors
+same-length-3 c = search same-errors
 
 returns : tie.Need-returns Inv-loop μ-loop
-returns c =
-    let at-loop = c .before .before .before .before .before .before .before .before .before .before .before .before in
-    let pre = at-loop .before .before .before .before .before .pre in
-    arrives (at-loop .loop .inv) (pre .1) (pre .0) (c .before .before .before .before .before .before .before .before .step .ensures) _ (c .before .match .keys2) (c .contents .ensures)
+returns c = search arrives
 
 pub store-spec : {M : Type 1} → statement M
 store-spec =

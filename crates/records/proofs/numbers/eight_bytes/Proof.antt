@@ -1,8 +1,6 @@
--- `records::numbers::eight_bytes` meets its contract: the sum is that of `of-eight`. Assumes nothing.
+-- `records::numbers::eight_bytes` meets its contract: the sum is that of the two numbers of four bytes. Assumes nothing.
 use borrow.Author.Needs.{needs}
-use denote.Ref.{now}
-use native.Mathlib.Omega.{arith}
-use Rattle.records.proofs.Finding.{of-eight}
+use Rattle.workfile.proofs.Finding.{eight-bytes}
 use Rattle.records.proofs.numbers.eight_bytes.Statement.{statement}
 use Rattle.records.proofs.numbers.eight_bytes.Tie as tie
 
@@ -22,9 +20,7 @@ add-result : tie.Need-add-result
 add-result c = search needs
 
 returns : tie.Need-returns
-returns c =
-    let a = c .before .before .before .args in
-    omega (arith, of-eight (now (a .file)) (a .at))
+returns c = search eight-bytes
 
 pub eight-bytes-spec : {M : Type 1} → statement M
 eight-bytes-spec =

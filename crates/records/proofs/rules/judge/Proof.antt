@@ -1,8 +1,6 @@
 -- `records::rules::judge` meets its contract: each kind is judged by its own function. Assumes nothing.
 use borrow.Author.Needs.{needs}
-use mathlib.Core.Path.{ap, sym, _∙_}
-use Rattle.records.specs.Judging.{judged}
-use Rattle.records.proofs.Judging.{fails}
+use Rattle.records.proofs.Judging.{judged-as, no-record}
 use Rattle.records.proofs.rules.judge.Statement.{statement}
 use Rattle.records.proofs.rules.judge.Tie as tie
 
@@ -34,19 +32,19 @@ enum-told : tie.Need-enum-told
 enum-told c = search needs
 
 returns : tie.Need-returns
-returns c = c .judge-word .ensures ∙ ap (judged _) (sym (c .before .before .found .given .1))
+returns c = search judged-as
 
 returns-2 : tie.Need-returns-2
-returns-2 c = c .judge-value .ensures ∙ ap (judged _) (sym (c .before .before .found2 .given .1))
+returns-2 c = search judged-as
 
 returns-3 : tie.Need-returns-3
-returns-3 c = c .judge-error .ensures ∙ ap (judged _) (sym (c .before .before .found3 .given .1))
+returns-3 c = search judged-as
 
 returns-4 : tie.Need-returns-4
-returns-4 c = c .judge-end .ensures ∙ ap (judged _) (sym (c .before .before .found4 .given .1))
+returns-4 c = search judged-as
 
 returns-5 : tie.Need-returns-5
-returns-5 c = fails _ _ (λ h. rw (c .enum-told .given .1) at h)
+returns-5 c = search no-record
 
 pub judge-spec : {M : Type 1} → statement M
 judge-spec =

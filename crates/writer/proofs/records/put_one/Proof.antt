@@ -1,9 +1,7 @@
 -- `writer::records::put_one` meets its contract: a byte, then a number. Assumes nothing.
-use borrow.Author.Needs.{needs}
-use native.Mathlib.Omega.{arith}
-use mathlib.Core.Path.{_∙_}
 use lib.ListN.{length-set}
-use Rattle.writer.proofs.Laying.{wrote-byte, wrote-on}
+use borrow.Author.Needs.{needs}
+use Rattle.writer.proofs.Laying.{laid-byte, long}
 use Rattle.writer.proofs.records.put_one.Statement.{statement}
 use Rattle.writer.proofs.records.put_one.Tie as tie
 
@@ -14,15 +12,13 @@ add-put-number : tie.Need-add-put-number
 add-put-number c = search needs
 
 put-number-requires : tie.Need-put-number-requires
-put-number-requires c κs = simp length-set (omega arith)
-
-same-length : tie.Need-same-length
-same-length c = c .before .before .put-number .kept .0 ∙ simp length-set
+put-number-requires c κs = simp length-set (search needs)
 
 returns : tie.Need-returns
-returns c =
-    let a = c .before .before .before .before .before .args in
-    wrote-on (wrote-byte (a .file .now) (a .at) (a .kind)) (c .before .before .put-number .ensures)
+returns c = search laid-byte
+
+same-length : tie.Need-same-length
+same-length c = long (returns c)
 
 pub put-one-spec : {M : Type 1} → statement M
 put-one-spec =

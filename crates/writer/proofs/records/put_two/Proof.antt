@@ -1,9 +1,8 @@
 -- `writer::records::put_two` meets its contract: a byte, then two numbers. Assumes nothing.
-use borrow.Author.Needs.{needs}
 use native.Mathlib.Omega.{arith}
-use mathlib.Core.Path.{_∙_}
 use lib.ListN.{length-set}
-use Rattle.writer.proofs.Laying.{wrote-byte, wrote-on}
+use borrow.Author.Needs.{needs}
+use Rattle.writer.proofs.Laying.{laid-byte, laid-on, long, long-byte}
 use Rattle.writer.proofs.records.put_two.Statement.{statement}
 use Rattle.writer.proofs.records.put_two.Tie as tie
 
@@ -14,21 +13,16 @@ add-put-number : tie.Need-add-put-number
 add-put-number c = search needs
 
 put-number-requires : tie.Need-put-number-requires
-put-number-requires c κs = simp length-set (omega arith)
+put-number-requires c κs = simp length-set (search needs)
 
 put-number-requires-2 : tie.Need-put-number-requires-2
-put-number-requires-2 c κs =
-    let a = c .before .before .before .before .before .before .args in
-    let first = c .before .before .before .put-number in
-    omega (arith, first .ensures .ends, first .kept .0, length-set (a .file .now) (a .at) (a .kind))
-
-same-length : tie.Need-same-length
-same-length c = c .before .before .put-number2 .kept .0 ∙ c .before .before .before .before .before .before .put-number .kept .0 ∙ simp length-set
+put-number-requires-2 c κs = omega (arith, long-byte)
 
 returns : tie.Need-returns
-returns c =
-    let a = c .before .before .before .before .before .before .before .before .before .args in
-    wrote-on (wrote-byte (a .file .now) (a .at) (a .kind)) (wrote-on (c .before .before .before .before .before .before .put-number .ensures) (c .before .before .put-number2 .ensures))
+returns c = search (laid-byte, laid-on)
+
+same-length : tie.Need-same-length
+same-length c = long (returns c)
 
 pub put-two-spec : {M : Type 1} → statement M
 put-two-spec =

@@ -1,0 +1,86 @@
+// Every operation, called: its answer in the one shape that the test programs print.
+use answers::Answer;
+use results::SplitResult;
+
+// An answer without a verdict.
+fn answer(refusal: u64, place: u64, figures: [u64; 5], count: usize) -> Answer {
+    Answer {
+        refusal,
+        place,
+        figures,
+        count,
+        verdict: 0,
+    }
+}
+
+pub fn size(level: u8, total: u64, te: u64, ae: u64) -> Answer {
+    let r = results::steps::of_size(size::size(level, total, te, ae));
+    answer(r.refusal, r.place, [r.draws, 0, 0, 0, 0], 1)
+}
+
+fn of_split(r: SplitResult) -> Answer {
+    let figures = [
+        r.interval,
+        r.draws_left,
+        r.sampled_total,
+        r.full_lines,
+        r.full_total,
+    ];
+    answer(r.refusal, r.place, figures, 5)
+}
+
+pub fn split(ledger: &[u64], n: u64, marks: &mut [u8]) -> Answer {
+    of_split(results::steps::of_split(split::split(ledger, n, marks)))
+}
+
+// The split's figures, without marks.
+pub fn split_figures(ledger: &[u64], n: u64) -> Answer {
+    let figures = split::split_figures(ledger, n, ledger.len());
+    of_split(results::steps::of_split(figures))
+}
+
+pub fn start(interval: u64, words: &[u64]) -> Answer {
+    let r = results::steps::of_start(start::start(interval, words));
+    answer(r.refusal, r.place, [r.start, r.words, 0, 0, 0], 2)
+}
+
+pub fn draw(ledger: &[u64], n: u64, start: u64, marks: &mut [u8]) -> Answer {
+    let r = results::steps::of_draw(draw::draw(ledger, n, start, marks));
+    answer(r.refusal, r.place, [r.drawn, 0, 0, 0, 0], 1)
+}
+
+pub fn project(ledger: &[u64], n: u64, start: u64, errors: &[u64]) -> Answer {
+    let r = results::steps::of_project(project::project(ledger, n, start, errors));
+    answer(r.refusal, r.place, [r.full, r.sampled, r.m, 0, 0], 3)
+}
+
+pub fn judge(level: u8, ledger: &[u64], n: u64, start: u64, errors: &[u64], te: u64) -> Answer {
+    let r = results::steps::of_judge(judge::judge(level, ledger, n, start, errors, te));
+    let figures = [r.full, r.sampled, r.m, r.precision, r.upper_limit];
+    Answer {
+        refusal: r.refusal,
+        place: r.place,
+        figures,
+        count: 5,
+        verdict: r.verdict,
+    }
+}
+
+pub fn read(file: &[u8], words: &mut [u64], values: &mut [u64], errors: &mut [u64]) -> Answer {
+    let r = results::file::of_read(reader::read(file, words, values, errors));
+    let figures = [r.level, r.te, r.ae, r.words, r.lines];
+    answer(r.refusal, r.place, figures, 5)
+}
+
+pub fn write(
+    level: u8,
+    te: u64,
+    ae: u64,
+    words: &[u64],
+    values: &[u64],
+    errors: &[u64],
+    file: &mut [u8],
+) -> Answer {
+    let r = results::file::of_write(writer::write(level, te, ae, words, values, errors, file));
+    answer(r.refusal, r.place, [r.length, 0, 0, 0, 0], 1)
+}

@@ -1,0 +1,29 @@
+-- `entry::records::made` meets its contract, kind by kind. Assumes nothing.
+use borrow.Author.Needs.{needs}
+use mathlib.Core.Path.{sym, ap}
+use Rattle.entry.specs.Records.{madeOf}
+use Rattle.entry.proofs.Lines.{none-made}
+use Rattle.entry.proofs.records.made.Statement.{statement}
+use Rattle.entry.proofs.records.made.Tie as tie
+
+returns : tie.Need-returns
+unfolding madeOf
+returns c = sym (ap (λ kind. madeOf kind (c .before .args .numbers)) (c .match .keys1))
+
+returns-2 : tie.Need-returns-2
+unfolding madeOf
+returns-2 c = sym (ap (λ kind. madeOf kind (c .before .args .numbers)) (c .match .keys2))
+
+returns-3 : tie.Need-returns-3
+unfolding madeOf
+returns-3 c = sym (ap (λ kind. madeOf kind (c .before .args .numbers)) (c .match .keys3))
+
+returns-4 : tie.Need-returns-4
+unfolding madeOf
+returns-4 c = sym (ap (λ kind. madeOf kind (c .before .args .numbers)) (c .match .keys4))
+
+returns-5 : tie.Need-returns-5
+returns-5 c = search (needs, none-made)
+
+pub made-spec : {M : Type 1} → statement M
+made-spec = tie.close (tie.spec returns returns-2 returns-3 returns-4 returns-5)

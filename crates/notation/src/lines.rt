@@ -1,0 +1,114 @@
+// What a line adds to those before it, by the rules of the working file; P and what is no record are the text's own.
+ghost use mathlib.Core.Path.{_≡_};
+ghost use Rattle.workfile.specs.declared.FileRecord.the-variants.{Word, Value, ErrorOf};
+ghost use Rattle.notation.specs.Contents.{brokenRule, takenPlan, takenRecord, takenOf};
+use crate::State;
+use crate::Taken;
+use entry::Record;
+use entry::Wrong;
+use records::Judged;
+use workfile::FileRecord;
+use workfile::Plan;
+use workfile::Tally;
+
+// Which rule bars a record of a kind: the first that it breaks, and the last of them where it breaks no other.
+fn broken_word(tally: Tally, word: u64) -> Wrong
+    ensures { λ r. ⌜ r ≡ brokenRule tally (Word word) ⌝ }
+{
+    if tally.lines > 0 {
+        return Wrong::OutOfOrder;
+    }
+    Wrong::TooManyWords
+}
+
+fn broken_value(tally: Tally, value: u64) -> Wrong
+    ensures { λ r. ⌜ r ≡ brokenRule tally (Value value) ⌝ }
+{
+    if tally.next_line > 0 {
+        return Wrong::OutOfOrder;
+    }
+    if tally.lines >= workfile::MOST_FILE_LINES {
+        return Wrong::TooManyLines;
+    }
+    Wrong::TotalTooLarge
+}
+
+fn broken_error(tally: Tally, line: usize, error: u64) -> Wrong
+    ensures { λ r. ⌜ r ≡ brokenRule tally (ErrorOf line error) ⌝ }
+{
+    if line >= tally.lines {
+        return Wrong::UnknownLine;
+    }
+    if line < tally.next_line {
+        return Wrong::LineNotRising;
+    }
+    Wrong::ErrorZero
+}
+
+// Which rule bars a record that the rules bar. No line writes the last two.
+fn broken_rule(tally: Tally, found: FileRecord) -> Wrong
+    ensures { λ r. ⌜ r ≡ brokenRule tally found ⌝ }
+{
+    match found {
+        FileRecord::Word(word) => broken_word(tally, word),
+        FileRecord::Value(value) => broken_value(tally, value),
+        FileRecord::ErrorOf(line, error) => broken_error(tally, line, error),
+        FileRecord::End(_, _) => Wrong::UnknownKind,
+        FileRecord::Nothing => Wrong::UnknownKind,
+    }
+}
+
+// P: once, and with a level of one byte.
+fn take_plan(s: State, level: u64, te: u64, ae: u64) -> Taken
+    ensures { λ r. ⌜ r ≡ takenPlan s level te ae ⌝ }
+{
+    if s.planned {
+        return Taken::Not(Wrong::SecondPlan);
+    }
+    if level > 255 {
+        return Taken::Not(Wrong::LevelTooLarge);
+    }
+    let plan = Plan {
+        level: level as u8,
+        te: te,
+        ae: ae,
+    };
+    let tally = s.tally;
+    Taken::With(State {
+        planned: true,
+        plan: plan,
+        tally: tally,
+    })
+}
+
+// Any other record: after P, and as the file's rules judge it.
+fn take_record(s: State, found: FileRecord) -> Taken
+    ensures { λ r. ⌜ r ≡ takenRecord s found ⌝ }
+{
+    if !s.planned {
+        return Taken::Not(Wrong::NoPlan);
+    }
+    let tally = s.tally;
+    let plan = s.plan;
+    match records::rules::judge(tally, found) {
+        Judged::Next(next, _) => Taken::With(State {
+            planned: true,
+            plan: plan,
+            tally: next,
+        }),
+        Judged::Last => Taken::Not(broken_rule(tally, found)),
+        Judged::Bad => Taken::Not(broken_rule(tally, found)),
+    }
+}
+
+// A line by those before it.
+pub fn take(s: State, found: Record) -> Taken
+    ensures { λ r. ⌜ r ≡ takenOf s found ⌝ }
+{
+    match found {
+        Record::Nothing => Taken::With(s),
+        Record::Plan(level, te, ae) => take_plan(s, level, te, ae),
+        Record::Filed(record) => take_record(s, record),
+        Record::Unreadable(wrong) => Taken::Not(wrong),
+    }
+}

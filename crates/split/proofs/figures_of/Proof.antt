@@ -1,0 +1,13 @@
+-- `split::figures_of` meets its contract: each answer is a law of the recursion's. Assumes nothing.
+use Rattle.split.proofs.Answer.{rest-asked, draws-fit, total-fits, figures-are}
+use Rattle.split.proofs.figures_of.Statement.{statement}
+use Rattle.split.proofs.figures_of.Tie as tie
+
+pub figures-of-spec : {M : Type 1} → statement M
+figures-of-spec =
+    tie.close
+    (tie.spec
+    (λ c κs. search rest-asked)
+    (λ c. search draws-fit)
+    (λ c. search total-fits)
+    (λ c. search figures-are))

@@ -2,7 +2,7 @@
 """What each mistake of document 01's "Where newcomers slip" does to the figures of samples/large-grants, and to those
 of the practice ledger over all its starts.
 
-    python3 tools/mistakes.py            prints the tables of docs/HANDBOOK.md
+    python3 tools/mistakes.py write      puts the tables into docs/HANDBOOK.md, each in the place of the one with its heading
     python3 tools/mistakes.py check      compares them with those that the page holds
 
 Every row is the reference with one mistake put in; the other steps are as they are. A line whose error was found is one that
@@ -187,17 +187,33 @@ def practice_starts():
     ]
 
 
+def with_tables(page, tables):
+    """The page with each table in the place of the next one that has its heading."""
+    lines, at = page.split("\n"), 0
+    for table in tables:
+        new = table.split("\n")
+        while lines[at : at + 2] != new[:2]:
+            at += 1
+            if at == len(lines):
+                sys.exit(f"docs/HANDBOOK.md has no table with the heading {new[0]}")
+        end = next((i for i in range(at, len(lines)) if not lines[i].startswith("|")), len(lines))
+        lines[at:end] = new
+        at += len(new)
+    return "\n".join(lines)
+
+
 def main(arguments):
-    case = Case("large-grants.txt")
-    tables = ["\n".join(lines) for lines in (at_its_level(case), at_level_50(case), over_starts(case), practice_starts())]
-    if arguments == ["check"]:
-        if not all(table in PAGE.read_text() for table in tables):
-            sys.exit("docs/HANDBOOK.md does not hold what tools/mistakes.py prints")
-        print("mistakes: the tables are as computed")
-    elif not arguments:
-        print("\n\n".join(tables))
-    else:
+    if arguments not in (["write"], ["check"]):
         sys.exit(__doc__)
+    case = Case("large-grants.txt")
+    tables = ["\n".join(lines) for lines in (at_its_level(case), over_starts(case), at_level_50(case), practice_starts())]
+    page = PAGE.read_text()
+    made = with_tables(page, tables)
+    if arguments == ["write"]:
+        PAGE.write_text(made)
+    elif page != made:
+        sys.exit("docs/HANDBOOK.md does not hold the tables that tools/mistakes.py writes")
+    print(f"mistakes: {len(tables)} tables as computed")
 
 
 if __name__ == "__main__":

@@ -1,8 +1,8 @@
 #!/usr/bin/env python3
 """The notation: the text of a working file, one record a line, read by its definition in words.
 
-    python3 tools/notation.py --self-test     the practice text, every fault, the edges of every limit, random contents
-    python3 tools/notation.py                 a text in, its working file out; or the line of its first fault
+    python3 tools/notation.py check     the practice text, every fault, the edges of every limit, random contents
+    python3 tools/notation.py pack      a text in, its working file out; or the line of its first fault on standard error
 
 A text is lines; each ends with a newline, which the last may lack. A line is fields between blanks: spaces, tabs and
 carriage returns. A line without fields is passed over, and so is one whose first field begins with #. Every other line is
@@ -253,13 +253,15 @@ def self_test():
 
 
 def main(arguments):
-    if arguments == ["--self-test"]:
+    if arguments == ["check"]:
         self_test()
-    elif arguments:
-        sys.exit(__doc__)
-    else:
+    elif arguments == ["pack"]:
         found = parse(sys.stdin.buffer.read())
-        sys.stdout.buffer.write(found.text().encode() if isinstance(found, Fault) else found.file())
+        if isinstance(found, Fault):
+            sys.exit(found.text().rstrip("\n"))
+        sys.stdout.buffer.write(found.file())
+    else:
+        sys.exit(__doc__)
 
 
 if __name__ == "__main__":

@@ -7,9 +7,9 @@ proved program, so that the two can be held against each other.
 An operation takes its inputs and its lent buffers (lists of numbers, or bytearrays), and returns its answer or a
 Refusal (number, place). It stores into a lent buffer only after its last check: a refused call leaves every buffer.
 
-    python3 tools/reference.py --self-test     the practice sheet, and the sums over all starts of random ledgers
-    python3 tools/reference.py --desk          the desk program: a working file in, its text out
-    python3 tools/reference.py --factors       the nine rows of sixty-four factors
+    python3 tools/reference.py check       the practice sheet, and the sums over all starts of random ledgers
+    python3 tools/reference.py desk        the desk program: a working file in, its text out
+    python3 tools/reference.py factors     the nine rows of sixty-four factors
 """
 
 import functools
@@ -566,13 +566,13 @@ def desk(file):
 
 
 def main(arguments):
-    if arguments == ["--self-test"]:
+    if arguments == ["check"]:
         import self_test  # it stands on this file
 
         self_test.run()
-    elif arguments == ["--desk"]:
+    elif arguments == ["desk"]:
         sys.stdout.buffer.write(desk(sys.stdin.buffer.read()))
-    elif arguments == ["--factors"]:
+    elif arguments == ["factors"]:
         for level in EF:
             print(level, *(RF(level, k) for k in range(64)))
     else:

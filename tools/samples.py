@@ -30,8 +30,9 @@ def pack(text):
 
 
 def bytes_of_hex(text):
+    """Digits two by two: lines that begin with # are comments, and blanks and line ends are passed over."""
     lines = [line for line in text.splitlines() if not line.startswith("#")]
-    return bytes.fromhex("".join(lines))
+    return bytes.fromhex("".join("".join(lines).split()))
 
 
 def file_of(path):

@@ -69,6 +69,8 @@ def count_lines(text):
 
 
 def main(arguments):
+    if arguments not in (["write"], ["check"], ["count"]):
+        sys.exit(__doc__)
     cases, stdout = make()
     stdin = b"".join(map(framed, [*cases, b""]))
     if arguments == ["write"]:
@@ -79,8 +81,6 @@ def main(arguments):
         for path, made in (STDIN, stdin), (STDOUT, stdout):
             if not path.exists() or path.read_bytes() != made:
                 sys.exit(f"{path.relative_to(ROOT)} is not what the reference gives")
-    elif arguments != ["count"]:
-        sys.exit(__doc__)
     count_lines(stdout)
     longest = max(map(len, cases))
     print(f"{len(cases)} cases, {len(stdin)} bytes in, {len(stdout)} bytes out; the longest case has {longest} bytes")

@@ -32,6 +32,8 @@ use Rattle.judge.specs.Judge.{judgeSays, JudgePromise}
 use Rattle.workfile.specs.declared.Plan.{Plan}
 use Rattle.workfile.specs.Promises.{ReadPromise, WritePromise}
 use Rattle.workfile.proofs.Promises.{read-once, write-once}
+use Rattle.roundtrip.specs.RoundTrip.{WriteThenRead, ReadThenWrite}
+use Rattle.roundtrip.proofs.Trips.{write-read-once, read-write-once}
 use Rattle.pen.proofs.Writing.{printed-once}
 use Rattle.steps.proofs.Laws.{steps-once}
 use Rattle.sheet.specs.Sheet.{SheetPromise}
@@ -103,6 +105,13 @@ reads-once _ _ _ _ _ _ _ _ p q = let same = read-once p q in (same .0, λ i. (sa
 writes-once : (plan : Plan) (words values errors file : List ℕ) → OneWith (WritePromise plan words values errors file)
 writes-once _ _ _ _ _ _ _ _ _ p q = write-once p q
 
+written-then-read-once : (plan : Plan) (words values errors file words-before values-before errors-before : List ℕ)
+    → OneWith (λ r (b : List ℕ × Three). WriteThenRead plan words values errors file words-before values-before errors-before r (b .0) (b .1 .0) (b .1 .1) (b .1 .2))
+written-then-read-once _ _ _ _ _ _ _ _ _ _ _ _ p q = let same = write-read-once p q in (same .0, λ i. (same .1 i, (same .2 i, same .3 i, same .4 i)))
+
+read-then-written-once : (file again : List ℕ) → OneWith (ReadThenWrite file again)
+read-then-written-once _ _ _ _ _ _ p q = read-write-once p q
+
 sheets-once : (file page : List ℕ) → OneWith (SheetPromise file page)
 sheets-once _ _ _ _ _ _ p q = sheet-once p q
 
@@ -133,6 +142,8 @@ no-freedom =
       steps = λ _ _ _ _ _ _ p q. steps-once p q;
       read = reads-once;
       write = writes-once;
+      write-then-read = written-then-read-once;
+      read-then-write = read-then-written-once;
       sheet = λ _ _ _ _ _ _ p q. printed-once p q;
       sheet-in = sheets-once;
       parse = λ _ _ _ _ _ _ _ _ p q. let same = parsed-once p q in (same .answers, λ i. (same .words i, same .values i, same .errors i));

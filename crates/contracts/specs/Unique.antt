@@ -17,6 +17,7 @@ use Rattle.judge.specs.Judge.{judgeSays, JudgePromise}
 use Rattle.steps.specs.Steps.{StepsPromise}
 use Rattle.workfile.specs.declared.Plan.{Plan}
 use Rattle.workfile.specs.Promises.{readSays, writeSays, ReadPromise, WritePromise}
+use Rattle.roundtrip.specs.RoundTrip.{WriteThenRead, ReadThenWrite}
 use Rattle.pen.specs.Page.{Printed}
 use Rattle.sheet.specs.Sheet.{sheetText, sheetSays, SheetPromise}
 use Rattle.notation.specs.declared.Fault.{Fault}
@@ -53,6 +54,9 @@ pub record NoFreedom : Type 0 where
   -- the working file, its sheet, and the text
   pub read : (file words values errors : List ℕ) → OneWith (λ r (b : Three). ReadPromise file words values errors r (b .0) (b .1) (b .2))
   pub write : (plan : Plan) (words values errors file : List ℕ) → OneWith (WritePromise plan words values errors file)
+  pub write-then-read : (plan : Plan) (words values errors file words-before values-before errors-before : List ℕ)
+      → OneWith (λ r (b : List ℕ × Three). WriteThenRead plan words values errors file words-before values-before errors-before r (b .0) (b .1 .0) (b .1 .1) (b .1 .2))
+  pub read-then-write : (file again : List ℕ) → OneWith (ReadThenWrite file again)
   pub sheet : (file page : List ℕ) → OneWith (Printed (sheetText file) page)
   pub sheet-in : (file page : List ℕ) → OneWith (SheetPromise file page)
   pub parse : (text words values errors : List ℕ) → OneWith (λ r (b : Three). ParsePromise text words values errors r (b .0) (b .1) (b .2))

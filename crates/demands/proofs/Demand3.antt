@@ -1,9 +1,9 @@
--- Demand 3 holds of every ledger and number of draws that the split accepts with an interval, and of every true error between nothing and
--- the book value. Assumes nothing.
+-- Demand 3 holds of every ledger and number of draws that the split accepts, and of every true error between nothing and the book value.
+-- Assumes nothing.
 use Prim.Native.Nat.{ℕ, _/_, _<_}
 use native.Mathlib.Nat.{zero-div, eq-zero-or-pos}
 use native.Mathlib.Omega.{arith}
-use mathlib.Core.Path.{_≡_, ap, _∙_}
+use mathlib.Core.Path.{_≡_, sym, ap, _∙_}
 use mathlib.Core.List.{List, []}
 use mathlib.Core.Logic.{⊎-elim}
 use lib.Dec.{eqb}
@@ -13,16 +13,15 @@ use Rattle.split.specs.declared.Figures.{Figures}
 use Rattle.split.specs.Split.{splitOf}
 use Rattle.split.specs.Start.{figuresFor}
 use Rattle.split.proofs.Facts.{split-facts}
-use Rattle.split.proofs.Start.{start-accepted}
+use Rattle.split.proofs.Start.{start-facts, start-accepted, start-zero}
 use Rattle.draw.specs.Row.{rowCents, marksFrom, drawMarks, ones}
-use Rattle.draw.specs.Draw.{drawOf}
-use Rattle.draw.proofs.Laws.{draw-marks, marks-started, draw-started, row-figures}
+use Rattle.draw.proofs.Laws.{draw-marks, marks-started, draw-started, draw-accepted, row-figures}
 use Rattle.project.specs.Lines.{sampledPart, total, projectionOf}
 use Rattle.project.specs.Project.{checkedFrom, projectOf}
 use Rattle.project.proofs.Lines.{lines-of}
-use Rattle.project.proofs.Laws.{checked-of, projection-by, project-at}
+use Rattle.project.proofs.Laws.{checked-of, projection-by, project-from}
 use Rattle.demands.specs.Starts.{sumBelow, oneIf, Within, entered}
-use Rattle.demands.specs.Demand3.{marksFor, projectedFor, sampledIn, fullIn, Demand3}
+use Rattle.demands.specs.Demand3.{marksFor, projectedFor, sampledIn, fullIn, DrawsAt, EveryStart, AllStarts, Demand3}
 use Rattle.demands.proofs.Sums.{sum-cong}
 use Rattle.demands.proofs.Fair.{drawn-each, enteredLines, weighted, projected-all, full-all, least-all, most-all, entered-clean, entered-length}
 
@@ -31,41 +30,58 @@ some-sampled : (J total draws : ℕ) → J ≡ total / draws → 0 < J → 0 < t
 some-sampled J total draws e some = ⊎-elim (λ (z : total ≡ 0). absurd (omega (arith, e ∙ ap (λ (n : ℕ). n / draws) z ∙ zero-div draws))) (λ p. p) (eq-zero-or-pos total)
 
 module _ (ledger : List ℕ) (n : ℕ) (errors : List ℕ) (f : Figures) (split : splitOf ledger n (length ledger) ≡ accepted f) (within : Within ledger errors) where
-  -- what the operations answer at a start below the interval
-  module _ (start : ℕ) (below : start < f .interval) where
-    started : figuresFor ledger n start (length ledger) ≡ accepted f
-    started = start-accepted ledger n start (length ledger) f split below
-
+  -- what the operations answer at an accepted start
+  module _ (start : ℕ) (started : figuresFor ledger n start (length ledger) ≡ accepted f) where
     marks-are : marksFor ledger n start ≡ drawMarks (f .interval) start ledger
     marks-are = marks-started ledger n start (length ledger) f started []
 
-    draw-is : drawOf ledger n start (length ledger) ≡ accepted (ones (drawMarks (f .interval) start ledger))
-    draw-is = draw-started ledger n start (length ledger) f started
+    draw-is : DrawsAt ledger n start
+    draw-is = (ones (drawMarks (f .interval) start ledger), draw-started ledger n start (length ledger) f started)
 
     project-is : projectedFor ledger n errors start ≡ accepted (projectionOf (enteredLines (f .interval) start 0 ledger errors))
     project-is =
         let J : ℕ = f .interval in
         let es : List ℕ = entered (marksFrom J start 0 ledger) errors in
         ap (λ (marks : List ℕ). projectOf ledger n start (entered marks errors)) (marks-are ∙ draw-marks J start ledger)
-        ∙ project-at ledger n start es f split (entered-length J start 0 ledger errors) below
+        ∙ sym (project-from ledger n start es (sym (ap (figuresFor ledger n start) (entered-length J start 0 ledger errors) ∙ started)))
         ∙ projection-by 0 J start ledger es
         (checked-of 0 J start ledger es ∙ ap (checkedFrom 0) (lines-of J start ledger es) ∙ entered-clean J start 0 0 ledger errors within)
 
-  pub demand-3 : 0 < f .interval → Demand3 ledger n errors f
-  demand-3 some =
+  -- a start below the interval is accepted, and so is each that the draw accepts
+  below : (start : ℕ) → start < f .interval → figuresFor ledger n start (length ledger) ≡ accepted f
+  below start h = start-accepted ledger n start (length ledger) f split h
+
+  by-draw : (start : ℕ) → DrawsAt ledger n start → figuresFor ledger n start (length ledger) ≡ accepted f
+  by-draw start (lines, drawn) =
+      let a = draw-accepted ledger n start (length ledger) lines drawn in
+      let its : splitOf ledger n (length ledger) ≡ accepted (a .0) = start-facts ledger n start (length ledger) (a .0) (a .1) .split in
+      let same : a .0 ≡ f = let w = sym its ∙ split in cc in
+      a .1 ∙ ap accepted same
+
+  pub every-start : EveryStart ledger n errors f
+  every-start =
+      record {
+        draws = λ start h. draw-is start (below start (omega (arith, h)));
+        draws-none = λ none. draw-is 0 (start-zero ledger n 0 (length ledger) f split (omega (arith, none)) (omega arith));
+        answers = λ start drawn. (_, project-is start (by-draw start drawn));
+        exact = λ start drawn. ap fullIn (project-is start (by-draw start drawn)) ∙ full-all (f .interval) start 0 ledger errors;
+      }
+
+  pub all-starts : 0 < f .interval → AllStarts ledger n errors f
+  all-starts some =
       let J : ℕ = f .interval in
       let facts = split-facts ledger n (length ledger) f split in
       let row : rowCents J ledger ≡ f .«sampled_total» = row-figures facts in
       let sampled : sumBelow J (λ start. sampledIn (projectedFor ledger n errors start)) ≡ weighted J ledger errors =
-      sum-cong J _ (λ start. total sampledPart (enteredLines J start 0 ledger errors)) (λ start below. ap sampledIn (project-is start below))
+      sum-cong J _ (λ start. total sampledPart (enteredLines J start 0 ledger errors)) (λ start h. ap sampledIn (project-is start (below start h)))
       ∙ projected-all J some 0 ledger errors in
       record {
         drawn = λ item inside small.
-            sum-cong J _ (λ start. oneIf (eqb (getD (drawMarks J start ledger) item 0) 1)) (λ start below. ap (λ (marks : List ℕ). oneIf (eqb (getD marks item 0) 1)) (marks-are start below))
-            ∙ drawn-each J some ledger item inside small;
+            sum-cong J _ (λ start. oneIf (eqb (getD (drawMarks J start ledger) item 0) 1)) (λ start h. ap (λ (marks : List ℕ). oneIf (eqb (getD marks item 0) 1)) (marks-are start (below start h)))
+            ∙ drawn-each J some ledger item inside (omega (arith, small));
         least = omega (arith, sampled, least-all J ledger errors within);
         most = omega (arith, sampled, most-all J ledger errors, row, some-sampled J (f .«sampled_total») (f .«draws_left») (facts .final) some);
-        exact = λ start below. ap fullIn (project-is start below) ∙ full-all J start 0 ledger errors;
-        draws = λ start below. (_, draw-is start below);
-        answers = λ start below. (_, project-is start below);
       }
+
+  pub demand-3 : Demand3 ledger n errors f
+  demand-3 = record { every-start = every-start; all-starts = all-starts }

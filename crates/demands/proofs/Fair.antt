@@ -20,12 +20,12 @@ use Rattle.project.specs.Project.{misplaced, checkedFrom}
 use Rattle.project.proofs.Amounts.{amount-least, amount-over}
 use Rattle.project.proofs.Lines.{lines-none, lines-more, total-none, total-more}
 use Rattle.project.proofs.Checking.{checked-none, checked-before}
-use Rattle.demands.specs.Starts.{sumBelow, oneIf, Within, entered, sampledError, fullError}
+use Rattle.demands.specs.Starts.{sumBelow, oneIf, Within, enteredOf, entered, sampledError, fullError}
 use Rattle.demands.proofs.Sums.{sum-cong, sum-add, sum-const, sum-times, covered-at}
 
 -- One line, by whether it is full and whether it covers a point: what is entered of its error, and what it gives.
 abbrev kept : Bool → Bool → ℕ → ℕ
-kept f c e = pick (eqb (markBy f c) 0) 0 e
+kept f c e = enteredOf (markBy f c) e
 
 sampled-line : (f c : Bool) (g : ℕ → ℕ) (e : ℕ) → sampledPart (stateBy f c (g (kept f c e))) (kept f c e) ≡ pick f 0 (oneIf c * g e)
 sampled-line true c g e = refl
@@ -144,7 +144,7 @@ module _ (J : ℕ) where
 entered-line : (f c : Bool) (g : ℕ → ℕ) (e v : ℕ) → e ≤ v → (kept f c e ≤ v) × (misplaced (stateBy f c (g (kept f c e))) (kept f c e) ≡ false)
 entered-line true c g e v h = (h, refl)
 entered-line false true g e v h = (h, refl)
-entered-line false false g e v h = (zero-le, refl)
+entered-line false false g e v h = (omega (arith, h), refl)
 
 pub entered-clean : (J s o item : ℕ) (vs es : List ℕ) → Within vs es → checkedFrom item (enteredLines J s o vs es) ≡ accepted (enteredLines J s o vs es)
 unfolding Within

@@ -29,8 +29,22 @@ abbrev pub fullIn : Outcome Projection → ℕ
 fullIn (accepted projection) = projection .full
 fullIn (refused number place) = 0
 
--- for a ledger and n that the split accepts with these figures, over the starts below J
-pub record Demand3 (ledger : List ℕ) (n : ℕ) (errors : List ℕ) (figures : Figures) : Type 0 where
+-- a start that the draw accepts
+abbrev pub DrawsAt : List ℕ → ℕ → ℕ → Type 0
+DrawsAt ledger n start = (lines : ℕ) × (drawOf ledger n start (length ledger) ≡ accepted lines)
+
+-- at every start, whether there is an interval or not
+pub record EveryStart (ledger : List ℕ) (n : ℕ) (errors : List ℕ) (figures : Figures) : Type 0 where
+  -- the draw accepts each start below J, and 0 where J is 0
+  pub draws : (start : ℕ) → start < figures .interval → DrawsAt ledger n start
+  pub draws-none : figures .interval ≡ 0 → DrawsAt ledger n 0
+  -- at every start that the draw accepts the projection accepts too
+  pub answers : (start : ℕ) → DrawsAt ledger n start → (projection : Projection) × (projectedFor ledger n errors start ≡ accepted projection)
+  -- and the full sum is exact
+  pub exact : (start : ℕ) → DrawsAt ledger n start → fullIn (projectedFor ledger n errors start) ≡ fullError (figures .interval) ledger errors
+
+-- over the starts below J, where there is an interval
+pub record AllStarts (ledger : List ℕ) (n : ℕ) (errors : List ℕ) (figures : Figures) : Type 0 where
   -- each sampled line is drawn in exactly as many of the starts as it has cents
   pub drawn : (item : ℕ) → item < length ledger → getD ledger item 0 ≤ figures .interval →
       sumBelow (figures .interval) (λ start. oneIf (eqb (getD (marksFor ledger n start) item 0) 1)) ≡ getD ledger item 0
@@ -38,8 +52,8 @@ pub record Demand3 (ledger : List ℕ) (n : ℕ) (errors : List ℕ) (figures : 
   pub least : figures .interval * sampledError (figures .interval) ledger errors ≤ sumBelow (figures .interval) (λ start. sampledIn (projectedFor ledger n errors start))
   -- and exceed it by less than the sampled lines' book value
   pub most : sumBelow (figures .interval) (λ start. sampledIn (projectedFor ledger n errors start)) < figures .interval * sampledError (figures .interval) ledger errors + figures .«sampled_total»
-  -- the full sum is exact at every start
-  pub exact : (start : ℕ) → start < figures .interval → fullIn (projectedFor ledger n errors start) ≡ fullError (figures .interval) ledger errors
-  -- neither the draw nor the projection refuses at any of the starts
-  pub draws : (start : ℕ) → start < figures .interval → (lines : ℕ) × (drawOf ledger n start (length ledger) ≡ accepted lines)
-  pub answers : (start : ℕ) → start < figures .interval → (projection : Projection) × (projectedFor ledger n errors start ≡ accepted projection)
+
+-- for a ledger and n that the split accepts with these figures
+pub record Demand3 (ledger : List ℕ) (n : ℕ) (errors : List ℕ) (figures : Figures) : Type 0 where
+  pub every-start : EveryStart ledger n errors figures
+  pub all-starts : 0 < figures .interval → AllStarts ledger n errors figures

@@ -20,10 +20,14 @@ oneIf test = pick test 1 0
 unfoldable pub Within : List ℕ → List ℕ → Type 0
 Within ledger errors = (item : ℕ) → getD errors item 0 ≤ getD ledger item 0
 
--- the errors that are entered where the draw leaves these marks: those of drawn and full lines, and 0 for the others
+-- what is entered of an error: the error of a drawn or full line, and 0 for the others
+abbrev pub enteredOf : ℕ → ℕ → ℕ
+enteredOf mark error = pick (eqb mark 0) 0 error
+
+-- the errors that are entered where the draw leaves these marks
 unfoldable pub entered : List ℕ → List ℕ → List ℕ
 entered [] errors = []
-entered (mark ∷ later) errors = pick (eqb mark 0) 0 (getD errors 0 0) ∷ entered later (drop 1 errors)
+entered (mark ∷ later) errors = enteredOf mark (getD errors 0 0) ∷ entered later (drop 1 errors)
 
 -- the true error of the sampled lines, and of the full ones
 unfoldable pub sampledError : ℕ → List ℕ → List ℕ → ℕ

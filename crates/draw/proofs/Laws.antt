@@ -14,7 +14,7 @@ use lib.ListN.{length, getD, drop}
 use lib.Seq.{drop-cons}
 use Rattle.terms.specs.Outcome.{accepted, after, left}
 use Rattle.terms.specs.Numbers.{sum}
-use Rattle.terms.proofs.Outcomes.{Gives, gives-after}
+use Rattle.terms.proofs.Outcomes.{Gives, gives-after, after-accepted}
 use Rattle.terms.proofs.Tests.{le-or-lt}
 use Rattle.split.specs.declared.Figures.{Figures}
 use Rattle.split.specs.Rounds.{upTo}
@@ -61,6 +61,13 @@ module _ (ledger : List ℕ) (n start beside : ℕ) (f : Figures) (started : fig
   pub draw-started : drawOf ledger n start beside ≡ accepted (ones (drawMarks (f .interval) start ledger))
   unfolding drawOf
   draw-started = ap (after (λ figures. accepted (ones (marksAt ledger start figures)))) started
+
+-- where the draw accepts a start, the figures for it are there
+pub draw-accepted : (ledger : List ℕ) (n start beside lines : ℕ) → drawOf ledger n start beside ≡ accepted lines → (f : Figures) × (figuresFor ledger n start beside ≡ accepted f)
+unfolding drawOf
+draw-accepted ledger n start beside lines e =
+    let a = after-accepted (λ figures. accepted (ones (marksAt ledger start figures))) (figuresFor ledger n start beside) lines e in
+    (a .0, a .1)
 
 -- the row is as long as the sampled lines' total
 pub row-sampled : (J : ℕ) (ledger : List ℕ) → rowCents J ledger ≡ sum (upTo J ledger)

@@ -210,5 +210,5 @@ module _ {J start : ℕ} {ledger marks : List ℕ} {item first point drawn : ℕ
       pub reached-less : length ledger - r .item .0 < length ledger - item
       reached-less = omega (arith, on hit r found)
 
-      pub reached-next : OnPoint J start ledger (set marks item 1) (r .item .0) (r .first .0) (point + J) (drawn + 1)
-      reached-next = reached hit r found
+      pub reached-next : {mark : ℕ} → mark ≡ 1 → OnPoint J start ledger (set marks item mark) (r .item .0) (r .first .0) (point + J) (drawn + 1)
+      reached-next is = rw is (reached hit r found)

@@ -16,11 +16,18 @@ use Rattle.draw.specs.declared.Place.{Place}
 use Rattle.draw.specs.Row.{full, cents, rowCents, firstCent, itemAt}
 use Rattle.draw.specs.Found.{Before, Found}
 
--- the row is no longer than the ledger's total
+-- the cents of a line: no more than its value, none where that is above the interval, and all where it is not
 cents-le : (f : Bool) (v : ℕ) → pick f 0 v ≤ v
 cents-le true v = zero-le
 cents-le false v = omega arith
 
+pub takes-none : (J v : ℕ) → J < v → 0 ≡ cents J v
+takes-none J v h = simp (lt-ltb _ _ h)
+
+pub takes-all : (J v : ℕ) → v ≤ J → v ≡ cents J v
+takes-all J v h = simp (le-ltb _ _ h)
+
+-- the row is no longer than the ledger's total
 pub row-sum : (J : ℕ) (ledger : List ℕ) → rowCents J ledger ≤ sum ledger
 unfolding rowCents
 row-sum J [] = zero-le

@@ -6,11 +6,13 @@ use borrow.Author.Tests.{lt-ltb, le-ltb, le-leb, lt-leb, eq-eqb, ne-eqb}
 use lib.ListN.{length}
 use Rattle.terms.specs.declared.Refusal.{Refusal}
 use Rattle.terms.specs.Outcome.{Outcome, accepted, refused, refusedBy, after}
+use Rattle.terms.specs.Limits.{mostTotal}
 use Rattle.factors.specs.declared.Level.{Level}
 use Rattle.factors.specs.declared.LevelAnswer.{LevelAnswer}
 use Rattle.factors.specs.Levels.{levelSays, LevelPromise}
 use Rattle.ledger.specs.declared.LedgerAnswer.{LedgerAnswer}
 use Rattle.ledger.specs.Ledger.{ledgerSays, ledgerOf, LedgerPromise}
+use Rattle.ledger.proofs.Laws.{good}
 use Rattle.split.specs.declared.Figures.{Figures}
 use Rattle.split.specs.declared.SplitAnswer.{SplitAnswer}
 use Rattle.split.specs.Split.{splitSays}
@@ -39,10 +41,11 @@ module _ (te projected limit : ℕ) where
   unfolding verdictOf
   is-inconclusive h l = simp (le-ltb _ _ h, lt-leb _ _ l)
 
-pub concludes : (te : ℕ) (p : Projection) (precision : ℕ) (v : Verdict) → v ≡ verdictOf te (p .full + p .sampled) (p .full + p .sampled + precision) →
-    _≡_ {A = Judgement} (record { projection = p; precision = precision; «upper_limit» = p .full + p .sampled + precision; verdict = v }) (concluded te p precision)
+pub concludes : (te : ℕ) (p : Projection) (precision limit : ℕ) (v : Verdict) → limit ≡ p .full + p .sampled + precision → v ≡ verdictOf te (p .full + p .sampled) limit →
+    _≡_ {A = Judgement} (record { projection = p; precision = precision; «upper_limit» = limit; verdict = v }) (concluded te p precision)
 unfolding concluded
-concludes te p precision v e = λ i. record { projection = p; precision = precision; «upper_limit» = p .full + p .sampled + precision; verdict = e i }
+concludes te p precision limit v l e =
+    λ i. record { projection = p; precision = precision; «upper_limit» = l i; verdict = (e ∙ ap (verdictOf te (p .full + p .sampled)) l) i }
 
 module _ (level : Level) (ledger : List ℕ) (n start : ℕ) (errors : List ℕ) (te : ℕ) where
   -- the figures for a start, of a ledger with this total
@@ -78,12 +81,15 @@ module _ (level : Level) (ledger : List ℕ) (n start : ℕ) (errors : List ℕ)
       pub total-is : accepted total ≡ ledgerOf ledger (length errors)
       total-is = sym (ap ledgerSays told) ∙ at .answer
 
+      total-most : total ≤ mostTotal
+      total-most = good ledger (length errors) total (sym total-is) .most
+
       pub te-zero : te ≡ 0 → refused 6 0 ≡ judgedLedger ledger n start errors te level
       te-zero z = sym (simp (eq-eqb _ _ z)) ∙ from-ledger (ap ledgerSays told)
 
       module _ (some : te ≡ 0 → ⊥) where
-        pub te-above : total < te → refused 6 0 ≡ judgedLedger ledger n start errors te level
-        te-above h = sym (simp (ne-eqb _ _ some, lt-ltb _ _ h)) ∙ from-ledger (ap ledgerSays told)
+        pub te-above : (total ≤ mostTotal → total < te) → refused 6 0 ≡ judgedLedger ledger n start errors te level
+        te-above h = sym (simp (ne-eqb _ _ some, lt-ltb _ _ (h total-most))) ∙ from-ledger (ap ledgerSays told)
 
         pub te-within : te ≤ total → (r : JudgeAnswer) → judgeSays r ≡ judgedFigures level ledger n start errors te → judgeSays r ≡ judgedLedger ledger n start errors te level
         te-within h r e = e ∙ sym (simp (ne-eqb _ _ some, le-ltb _ _ h)) ∙ from-ledger (ap ledgerSays told)

@@ -1,18 +1,17 @@
 -- Writing on a page: one text after another is one text, what a loop that writes has left to write, and that a text for which there is
 -- room stands at the start of the page. Assumes nothing.
-use Prim.Native.Nat.{ℕ, suc, _+_, _/_, _%_, _≤_, _<_}
+use Prim.Native.Nat.{ℕ, suc, _+_, _≤_, _<_}
 use mathlib.Core.Path.{_≡_, refl, sym, ap, _∙_}
 use mathlib.Core.Bool.{Bool, true, false}
 use lib.Dec.{ltb}
 use Rattle.terms.specs.Numbers.{pick}
-use Rattle.pen.specs.Text.{digit, decimal, fields, line, more}
+use Rattle.pen.specs.Text.{decimal, fields, line, more}
 use mathlib.Core.List.{List, [], _∷_, _++_, map, append-assoc}
 use native.Mathlib.Omega.{arith}
 use native.Mathlib.Numerals.{add-one}
-use borrow.Author.Tests.{lt-ltb}
+use borrow.Author.Tests.{lt-ltb, le-ltb}
 use lib.ListN.{length, getD, set, drop, length-set, length-append, drop-of-length-le}
 use lib.Seq.{sets, sets-eq, drop-cons, length-take-le}
-use Rattle.pen.proofs.Decimals.{decimal-small, decimal-more}
 use Rattle.pen.specs.Page.{Page, page, put, write, Wrote, Printed}
 
 pub write-append : (p : Page) (x y : List ℕ) → write p (x ++ y) ≡ write (write p x) y
@@ -29,6 +28,15 @@ _⨾_ {o} {o′} {o″} {a} {a′} {a″} {x} {y} u v =
 pub nothing : {o : List ℕ} {a : ℕ} → Wrote o a [] o a
 unfolding write
 nothing = record { same = refl }
+
+-- one byte, by the room
+pub byte-put : (b : ℕ) {o : List ℕ} {a : ℕ} → a < length o → Wrote o a (b ∷ []) (set o a b) (a + 1)
+unfolding put write
+byte-put b {o} {a} h = record { same = simp (lt-ltb a (length o) h) }
+
+pub byte-past : (b : ℕ) {o : List ℕ} {a : ℕ} → length o ≤ a → Wrote o a (b ∷ []) o a
+unfolding put write
+byte-past b {o} {a} h = record { same = simp (le-ltb a (length o) h) }
 
 pub length-put : (p : Page) (b : ℕ) → length (put p b .bytes) ≡ length (p .bytes)
 unfolding put
@@ -133,12 +141,6 @@ after-space u v = u ⨾ v
 pub line-laid : (ns : List ℕ) {o o₁ o₂ o₃ w : List ℕ} {a a₁ a₂ a₃ : ℕ} → Wrote o a w o₁ a₁ → Wrote o₁ a₁ (fields ns) o₂ a₂ → Wrote o₂ a₂ (10 ∷ []) o₃ a₃
     → Wrote o a (line (w ∷ map decimal ns)) o₃ a₃
 line-laid ns {w = w} opened filled ended = as-text (line-parts w ns) (opened ⨾ filled ⨾ ended)
-
-pub small-laid : (n : ℕ) {o o′ : List ℕ} {a a′ : ℕ} → n < 10 → Wrote o a (digit n ∷ []) o′ a′ → Wrote o a (decimal n) o′ a′
-small-laid n h w = as-text (decimal-small n h) w
-
-pub more-laid : (n : ℕ) {o o₁ o₂ : List ℕ} {a a₁ a₂ : ℕ} → 10 ≤ n → Wrote o a (decimal (n / 10)) o₁ a₁ → Wrote o₁ a₁ (digit (n % 10) ∷ []) o₂ a₂ → Wrote o a (decimal n) o₂ a₂
-more-laid n h front last = as-text (decimal-more n h) (front ⨾ last)
 
 -- with enough room, from the start of the page
 pub printed : (text old : List ℕ) (r : ℕ) (new : List ℕ) → length text ≤ length old → Wrote old 0 text new r → Printed text old r new

@@ -132,9 +132,10 @@ module _ (l : Level) (J k f : ℕ) (s : List ℕ) (falling : Falling J s) (facto
   pub first-casts : SFits w64 (pos (J * f))
   first-casts = record { sfits = below }
 
-pub weigh-begin : (l : Level) (J f : ℕ) (s : List ℕ) → Falling J s → Reliability l 0 f → Weighed l J s (J * f) 0
+pub weigh-begin : (l : Level) (J k f : ℕ) (s : List ℕ) → Falling J s → Reliability l k f → k ≡ 0 → Weighed l J s (J * f) 0
 unfolding hundredths
-weigh-begin l J f s falling first = record { inside = zero-le; value = toZ-pos w64 (J * f) (below l J 0 f s falling first) ∙ ap (λ (r : ℕ). pos (J * r)) (first .value) }
+weigh-begin l J k f s falling factor first =
+    record { inside = zero-le; value = toZ-pos w64 (J * f) (below l J k f s falling factor) ∙ ap (λ (r : ℕ). pos (J * r)) (factor .value ∙ ap (rf l) first) }
 
 -- one amount more
 module _ (l : Level) (J : ℕ) (s : List ℕ) (sum i : ℕ) (step : ℤ) (falling : Falling J s) (at : Weighed l J s sum i) (more : i < length s) (fits : mag step < 2 ^ 63) (is-step : step ≡ stepOf l (i + 1)) where

@@ -6,7 +6,7 @@ use mathlib.Core.List.{List, [], _∷_}
 use borrow.Author.Tests.{ltb-false, lt-ltb, le-ltb}
 use lib.Dec.{ltb}
 use Rattle.terms.specs.Numbers.{pick}
-use Rattle.terms.specs.Outcome.{Outcome, accepted, refused, after}
+use Rattle.terms.specs.Outcome.{accepted, refused, after}
 use Rattle.terms.proofs.Outcomes.{never, after-accepted, Gives, gives-after}
 use Rattle.terms.proofs.Tests.{by-test}
 use Rattle.project.specs.declared.State.{State}
@@ -63,11 +63,6 @@ module _ (item : ℕ) (l : Line) where
       by-test (λ o. o ≡ accepted k → checkedLine item l ≡ o → Sound) (ltb (l .value) (l .error)) (λ p w. never w)
       (λ p. by-test (λ o. o ≡ accepted k → checkedLine item l ≡ o → Sound) (misplaced (l .state) (l .error)) (λ q w. never w)
       (λ q w s. record { within = ltb-false _ _ p; passes = s })) e refl
-
--- a refusal that comes through a step which refuses nothing
-pub refused-first : {A B : Type 0} {n p : ℕ} (next : A → B) (o : Outcome A) → refused n p ≡ after (λ a. accepted (next a)) o → o ≡ refused n p
-refused-first next (accepted a) e = never e
-refused-first next (refused k q) e = cc
 
 -- all lines
 pub checked-none : (item : ℕ) → checkedFrom item [] ≡ accepted []

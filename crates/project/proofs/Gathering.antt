@@ -11,7 +11,7 @@ use lib.Seq.{drop-cons}
 use Rattle.terms.specs.declared.Refusal.{Refusal}
 use Rattle.terms.specs.Outcome.{Outcome, accepted, refused, refusedBy, after, left}
 use Rattle.terms.specs.Numbers.{sum}
-use Rattle.terms.proofs.Outcomes.{after-accepted}
+use Rattle.terms.proofs.Outcomes.{after-accepted, refused-first}
 use Rattle.draw.specs.Row.{rowCents}
 use Rattle.draw.proofs.Laws.{row-on}
 use Rattle.draw.proofs.Row.{row-sum}
@@ -30,7 +30,7 @@ use Rattle.project.specs.Gather.{lineAt, linesWalk, addedTo, Fits}
 use Rattle.project.specs.Project.{lineSays, checkedLine, checkedFrom, checkedLines, projectionAt, Ready}
 use Rattle.project.specs.Gather.{keptBy, keptFrom, keptOf, GatherPromise, Room, passSays, further, PassPromise}
 use Rattle.project.proofs.Lines.{lines-walked, walk-on, walk-end}
-use Rattle.project.proofs.Checking.{refused-first, Sound, checked-sound}
+use Rattle.project.proofs.Checking.{Sound, checked-sound}
 use Rattle.project.proofs.Facts.{line-facts}
 use Rattle.project.proofs.Kept.{kept-length}
 

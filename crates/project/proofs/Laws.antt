@@ -3,18 +3,18 @@
 use mathlib.Core.Path.{_≡_, refl, sym, ap, _∙_}
 use mathlib.Core.Bool.{Bool, true, false}
 use mathlib.Core.List.{List, [], _∷_, _++_, map}
-use Prim.Native.Nat.{ℕ, _+_, _≤_, _<_}
+use Prim.Native.Nat.{ℕ, _+_, _≤_}
 use native.Mathlib.Omega.{arith}
 use lib.ListN.{length, getD, drop}
 use Rattle.terms.specs.declared.Refusal.{Refusal}
 use Rattle.terms.specs.Outcome.{Outcome, accepted, refused, after}
 use Rattle.terms.specs.Numbers.{pick, sum}
-use Rattle.terms.proofs.Outcomes.{after-accepted, Gives, gives-after, gives-among}
+use Rattle.terms.proofs.Outcomes.{after-accepted, Gives, gives-after, gives-among, refused-first}
 use Rattle.split.specs.declared.Figures.{Figures}
 use Rattle.split.specs.declared.SplitAnswer.{SplitAnswer}
-use Rattle.split.specs.Split.{splitSays, splitOf}
+use Rattle.split.specs.Split.{splitSays}
 use Rattle.split.specs.Start.{figuresFor, FiguresForPromise}
-use Rattle.split.proofs.Start.{StartFacts, start-facts, start-accepted, figuresNumbers, figures-give}
+use Rattle.split.proofs.Start.{StartFacts, start-facts, figuresNumbers, figures-give}
 use Rattle.draw.specs.Points.{covers}
 use Rattle.draw.specs.Row.{full, cents, marksFrom, drawMarks}
 use Rattle.draw.proofs.Laws.{draw-marks, row-figures}
@@ -27,7 +27,7 @@ use Rattle.project.specs.declared.ProjectAnswer.the-variants.{Refused}
 use Rattle.project.specs.Lines.{amount, stateBy, linesFrom, linesOf, projectionOf}
 use Rattle.project.specs.Project.{checkedFrom, checkedLines, projectionAt, projectedBy, projectOf, ProjectPromise, Ready}
 use Rattle.project.specs.Gather.{GatherPromise}
-use Rattle.project.proofs.Checking.{refused-first, checked-same, lineNumbers, checked-gives}
+use Rattle.project.proofs.Checking.{checked-same, lineNumbers, checked-gives}
 use Rattle.project.proofs.Facts.{LinesFacts, lines-facts}
 
 -- at an interval and a start
@@ -81,6 +81,10 @@ module _ (ledger : List ℕ) (n start : ℕ) (errors : List ℕ) where
   unfolding projectOf
   project-from e = ap (after (projectedBy ledger start errors)) e
 
+  -- it is made at the final interval
+  project-final : (f : Figures) → accepted f ≡ figuresFor ledger n start (length errors) → projectionAt 0 (f .interval) start ledger errors ≡ projectOf ledger n start errors
+  project-final f e = project-from e
+
   module _ (a : SplitAnswer) (promised : FiguresForPromise ledger n start (length errors) a) where
     pub figures-refused : (why : Refusal) → a ≡ SplitAnswer.Refused why → ProjectPromise ledger n start errors (Refused why)
     figures-refused why told = record { answer = project-from (sym (ap splitSays told) ∙ promised .answer) }
@@ -90,13 +94,7 @@ module _ (ledger : List ℕ) (n start : ℕ) (errors : List ℕ) where
       figures-ready = ready f (sym (promised .answer) ∙ ap splitSays told)
 
       pub figures-projected : (r : ProjectAnswer) (amounts amounts′ : List ℕ) → GatherPromise 0 (f .interval) start ledger errors amounts r amounts′ → ProjectPromise ledger n start errors r
-      figures-projected r amounts amounts′ g = record { answer = g .answer ∙ project-from (sym (ap splitSays told) ∙ promised .answer) }
-
-  -- where the split accepts and the start is below its interval
-  pub project-at : (f : Figures) → splitOf ledger n (length ledger) ≡ accepted f → length errors ≡ length ledger → start < f .interval →
-      projectOf ledger n start errors ≡ projectionAt 0 (f .interval) start ledger errors
-  project-at f split same below =
-      sym (project-from (sym (ap (figuresFor ledger n start) same ∙ start-accepted ledger n start (length ledger) f split below)))
+      figures-projected r amounts amounts′ g = record { answer = g .answer ∙ project-final f (sym (ap splitSays told) ∙ promised .answer) }
 
   -- what an accepted projection gives
   pub record ProjectFacts (p : Projection) : Type 0 where

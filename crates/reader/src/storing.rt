@@ -33,10 +33,13 @@ fn contents(file: &[u8], tally: Tally) -> Contents
     requires { ⌜ 18 ≤ length (now file) ⌝ }
     ensures { λ r. ⌜ r ≡ contentsWith (planOf (now (file .entry))) tally ⌝ }
 {
+    let level = file[1];
+    let te = records::numbers::eight_bytes(file, 2);
+    let ae = records::numbers::eight_bytes(file, 10);
     Contents {
-        level: file[1],
-        te: records::numbers::eight_bytes(file, 2),
-        ae: records::numbers::eight_bytes(file, 10),
+        level: level,
+        te: te,
+        ae: ae,
         words: tally.words as u64,
         lines: tally.lines as u64,
     }

@@ -53,10 +53,10 @@ pub fn of_write(answer: WriteAnswer) -> WriteResult
                 length: 0,
             }
         }
-        WriteAnswer::Written(length) => WriteResult {
+        WriteAnswer::Written(written) => WriteResult {
             refusal: 0,
             place: 0,
-            length,
+            length: written,
         },
     }
 }
@@ -73,10 +73,10 @@ pub fn of_sheet(answer: SheetAnswer) -> SheetResult
                 length: 0,
             }
         }
-        SheetAnswer::Printed(length) => SheetResult {
+        SheetAnswer::Printed(printed) => SheetResult {
             refusal: 0,
             place: 0,
-            length,
+            length: printed,
         },
     }
 }

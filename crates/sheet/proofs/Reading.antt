@@ -1,89 +1,31 @@
 -- From what the reader promises to the text of the file. Assumes nothing.
-use Prim.Native.Nat.{ℕ, zero, suc, _+_, _*_, _≤_}
+use Prim.Native.Nat.{ℕ, _+_, _*_, _≤_}
 use native.Mathlib.Omega.{arith}
-use mathlib.Core.Path.{_≡_, sym, ap, _∙_}
-use mathlib.Core.List.{List, [], _∷_}
-use lib.ListN.{length, take, replicate}
+use mathlib.Core.Path.{_≡_, ap}
+use mathlib.Core.List.{List}
+use lib.ListN.{length, take}
 use Rattle.terms.specs.declared.Refusal.{Refusal}
 use Rattle.terms.specs.Refusals.{number, place}
-use Rattle.terms.specs.Outcome.{Outcome, accepted, refused, after}
-use Rattle.terms.proofs.Outcomes.{never}
 use Rattle.workfile.specs.declared.Contents.{Contents}
 use Rattle.workfile.specs.declared.ReadAnswer.{ReadAnswer}
-use Rattle.workfile.specs.declared.ReadAnswer.the-variants.{Read, Refused}
-use Rattle.workfile.specs.Content.{mostWords, mostFileLines}
-use Rattle.workfile.specs.Decode.{decode}
-use Rattle.workfile.specs.Promises.{readSays, counted, countsOf, planWith, Rooms, ReadPromise}
+use Rattle.workfile.specs.declared.ReadAnswer.the-variants.{Refused}
+use Rattle.workfile.specs.Promises.{planWith, Rooms, ReadPromise}
 use Rattle.workfile.proofs.OneFile.{read-counts}
-use Rattle.workfile.proofs.Promises.{roomy, heldBy, held}
+use Rattle.workfile.proofs.Promises.{heldBy}
+use Rattle.workfile.proofs.Held.{read-refused, AtRead, decodes}
 use Rattle.sheet.specs.Lines.{refusedLine}
 use Rattle.sheet.specs.Sheet.{textBy, stepsText, contentText, sheetText, longestText}
-
-refused-before : {A B : Type 0} (g : A → B) (o : Outcome A) {n p : ℕ} → refused n p ≡ after (λ a. accepted (g a)) o → o ≡ refused n p
-refused-before g (accepted a) e = never e
-refused-before g (refused m q) {n} {p} e =
-    let number : m ≡ n = cc in
-    let place : q ≡ p = cc in
-    λ i. refused (number i) (place i)
-
-take-short : (n : ℕ) (l : List ℕ) → length (take n l) ≤ length l
-take-short zero l = omega arith
-take-short (suc n) [] = omega arith
-take-short (suc n) (x ∷ l) = omega (arith, take-short n l)
-
--- the desk program's rooms hold every legal file
-pub desk-rooms : Rooms (replicate mostWords 0) (replicate mostFileLines 0) (replicate mostFileLines 0)
-desk-rooms = record { words = omega arith; values = omega arith; errors = omega arith }
-
--- with room for every legal file the answer is what the file decides
-decoded : {file w v e w′ v′ e′ : List ℕ} {r : ReadAnswer} → Rooms w v e → ReadPromise file w v e r w′ v′ e′ → readSays r ≡ countsOf (decode file)
-decoded {file} {w} {v} {e} rooms p = p .answer ∙ ap countsOf (roomy file w v e rooms)
 
 pub file-refused : {file w v e w′ v′ e′ : List ℕ} {r : ReadAnswer} → Rooms w v e → ReadPromise file w v e r w′ v′ e′ → (why : Refusal) → r ≡ Refused why →
     sheetText file ≡ refusedLine (number why) (place why)
 unfolding sheetText
-file-refused {file} rooms p why is = ap (textBy contentText) (refused-before counted (decode file) (sym (ap readSays is) ∙ decoded rooms p))
-
--- where a file was read: the buffers and the answer
-pub record AtRead (file : List ℕ) (k : Contents) (words′ values′ errors′ : List ℕ) : Type 0 where
-  pub words : List ℕ
-  pub values : List ℕ
-  pub errors : List ℕ
-  pub answer : ReadAnswer
-  pub rooms : Rooms words values errors
-  pub promise : ReadPromise file words values errors answer words′ values′ errors′
-  pub told : answer ≡ Read k
+file-refused rooms p why is = ap (textBy contentText) (read-refused rooms p why is)
 
 module _ {file : List ℕ} {k : Contents} {w v e : List ℕ} (at : AtRead file k w v e) where
-  decodes : decode file ≡ accepted (heldBy k w v e)
-  decodes = held k (at .promise) (ap readSays (at .told))
-
-  counts-are : counted (heldBy k w v e) ≡ k
-  counts-are = let z : accepted (counted (heldBy k w v e)) ≡ accepted k = sym (ap countsOf decodes) ∙ sym (decoded (at .rooms) (at .promise)) ∙ ap readSays (at .told) in cc
-
-  -- as many entries as the answer counts were read, and the rooms have so many
-  pub words-long : k .words ≡ length (take (k .words) w)
-  words-long = sym (ap (λ (x : Contents). x .words) counts-are)
-
-  pub values-long : k .lines ≡ length (take (k .lines) v)
-  values-long = sym (ap (λ (x : Contents). x .lines) counts-are)
-
-  pub errors-long : k .lines ≡ length (take (k .lines) e)
-  errors-long = values-long ∙ sym (read-counts file (heldBy k w v e) decodes .same)
-
-  pub words-fit : k .words ≤ length w
-  words-fit = omega (arith, words-long, take-short (k .words) w)
-
-  pub values-fit : k .lines ≤ length v
-  values-fit = omega (arith, values-long, take-short (k .lines) v)
-
-  pub errors-fit : k .lines ≤ length e
-  errors-fit = omega (arith, errors-long, take-short (k .lines) e)
-
   pub file-read : sheetText file ≡ stepsText (planWith (k .level) (k .te) (k .ae)) (take (k .words) w) (take (k .lines) v) (take (k .lines) e)
   unfolding sheetText
-  file-read = ap (textBy contentText) decodes
+  file-read = ap (textBy contentText) (decodes at)
 
   -- the text has room
   pub text-room : 401 + 90 * length (take (k .lines) v) ≤ longestText
-  text-room = omega (arith, read-counts file (heldBy k w v e) decodes .few-lines)
+  text-room = omega (arith, read-counts file (heldBy k w v e) (decodes at) .few-lines)

@@ -57,9 +57,11 @@ module _ (total te ae : ℕ) (l : Level) where
                 simp (divUp-is, le-ltb mostTotal total most, ne-eqb total 0 some, ne-eqb te 0 tolerable, le-ltb total te within, le-ltb total ae anticipated, ← expansion, ← r .value, lt-leb (100 * te) (ae * f) h)
 
 -- the products fit, and the sum that is divided
-pub anticipated-fits : (ae f : ℕ) (l : Level) → ae ≤ mostTotal → f ≡ ef l → Fits w64 (ae * f)
-anticipated-fits ae f l most e =
-    record { fits = omega (arith, mul-le-mul {n₁ = ae} {m₁ = f} {n₂ = 1000000000000000} {m₂ = 190} most (omega (arith, ef-top l))) }
+pub expansion-most : (f : ℕ) (l : Level) → f ≡ ef l → f ≤ 190
+expansion-most f l e = omega (arith, ef-top l)
+
+pub anticipated-fits : (ae f : ℕ) → ae ≤ mostTotal → f ≤ 190 → Fits w64 (ae * f)
+anticipated-fits ae f most small = record { fits = omega (arith, mul-le-mul {n₁ = ae} {m₁ = f} {n₂ = 1000000000000000} {m₂ = 190} most small) }
 
 module _ (total k f : ℕ) (l : Level) (most : total ≤ mostTotal) (r : Reliability l k f) where
   wanted-most : total * f ≤ 8407000000000000000

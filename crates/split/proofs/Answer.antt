@@ -6,8 +6,9 @@ use native.Mathlib.Nat.{le-refl}
 use native.Mathlib.Omega.{arith}
 use borrow.Author.Tests.{lt-ltb, le-ltb, eq-eqb, ne-eqb}
 use lib.ListN.{length}
-use Rattle.terms.specs.Outcome.{Outcome, refused}
+use Rattle.terms.specs.Outcome.{Outcome, accepted, refused}
 use Rattle.terms.specs.Numbers.{sum}
+use Rattle.terms.specs.Limits.{mostInterval}
 use Rattle.split.specs.Rounds.{above, upTo, Rest, splitLines}
 use Rattle.split.specs.Split.{Totalled, sampled, figuresOf, withinMost, settledOf, figuresFrom}
 use Rattle.split.specs.declared.Figures.{Figures}
@@ -25,6 +26,14 @@ module _ {ledger : List ℕ} {t : ℕ} (at : Totalled ledger t) where
 
   pub rest-asked : (sum ledger < 2 ^ 64) × (t ≡ sum (upTo t ledger))
   rest-asked = let e = at .added in let m = at .most in (omega arith, omega (arith, ap sum all-lines))
+
+-- 10, by whether the interval is above its maximum
+module _ (f : Figures) where
+  pub interval-too-large : mostInterval < f .interval → refused 10 0 ≡ withinMost f
+  interval-too-large h = simp (lt-ltb _ _ h)
+
+  pub interval-within : f .interval ≤ mostInterval → accepted f ≡ withinMost f
+  interval-within h = simp (le-ltb _ _ h)
 
 -- 9, by whether draws are left, and whether lines with value are
 module _ (f : Figures) {o : Outcome Figures} where

@@ -1,6 +1,7 @@
--- The list of the rounds' intervals: it never grows, its last is the final J, and a line becomes full exactly when it exceeds that.
+-- The list of the rounds' intervals: it never grows, its last is the final J, and a line becomes full exactly when it exceeds that; each is
+-- that of its round, and the rounds end where the split does.
 -- Assumes nothing.
-use mathlib.Core.Path.{_≡_, refl}
+use mathlib.Core.Path.{_≡_, refl, sym, subst}
 use mathlib.Core.List.{List, [], _∷_}
 use mathlib.Core.Logic.{⊎-elim}
 use mathlib.Core.Bool.{Bool, true, false}
@@ -11,8 +12,9 @@ use lib.Dec.{ltb}
 use lib.ListN.{length}
 use Rattle.terms.specs.Numbers.{pick}
 use Rattle.terms.proofs.Tests.{le-or-lt}
-use Rattle.split.specs.Rounds.{intervalOf, fullOf, linesAfter, drawsAfter, rounds, intervals, becomesFull}
-use Rattle.split.proofs.Laws.{Way, spent, done, again, way, few, falls, round-done, round-again}
+use Rattle.split.specs.Rounds.{intervalOf, fullOf, linesAfter, drawsAfter, rounds, splitLines, intervals, becomesFull}
+use Rattle.split.specs.Intervals.{Rounds, no-draw, last, next}
+use Rattle.split.proofs.Laws.{Way, spent, done, again, way, few, falls, round-none, round-done, round-again}
 
 abbrev pub NeverGrows : ℕ → List ℕ → Type 0
 NeverGrows j [] = Unit
@@ -82,3 +84,23 @@ full-exactly l n v p = go (intervals n l n) refl
         absurd (omega arith)
     go (j ∷ js) e =
         rw (← last-is-final n l n 0 p (omega arith), e) (full-at-last j js v (rw e at (never-grows n l n (intervalOf l n) (omega arith)) .1))
+
+-- no round, where there is no draw
+without : (lines : List ℕ) (draws : ℕ) → draws ≡ 0 → Rounds lines draws [] (record { interval = 0; draws = draws; lines = lines })
+without lines draws e = subst (λ (d : ℕ). Rounds lines d [] (record { interval = 0; draws = d; lines = lines })) (sym e) no-draw
+
+listed : (more : ℕ) (lines : List ℕ) (draws : ℕ) → draws ≤ more → Rounds lines draws (intervals more lines draws) (rounds more lines draws)
+unfolding rounds intervals
+listed zero lines draws h = without lines draws (omega arith)
+listed (suc more) lines draws h = go (way lines draws) (listed more (linesAfter lines draws) (drawsAfter lines draws))
+  where
+    go : Way lines draws →
+        (drawsAfter lines draws ≤ more → Rounds (linesAfter lines draws) (drawsAfter lines draws) (intervals more (linesAfter lines draws) (drawsAfter lines draws)) (rounds more (linesAfter lines draws) (drawsAfter lines draws))) →
+        Rounds lines draws (intervals (suc more) lines draws) (rounds (suc more) lines draws)
+    go (spent e) ih = rw (intervals-none more lines draws e, round-none more lines draws e) (without lines draws e)
+    go (done w e) ih = rw (intervals-done more lines draws w e, round-done more lines draws w e) (last {lines = lines} {draws = draws} (omega arith) e)
+    go (again w e) ih = rw (intervals-again more lines draws w e, round-again more lines draws w e) (next {lines = lines} {draws = draws} (omega arith) (omega arith) (ih (omega arith)))
+
+-- of the split of a ledger
+pub rounds-listed : (ledger : List ℕ) (n : ℕ) → Rounds ledger n (intervals n ledger n) (splitLines ledger n)
+rounds-listed ledger n = listed n ledger n (omega arith)

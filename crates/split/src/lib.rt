@@ -154,10 +154,10 @@ pub fn mark_full(ledger: &[u64], interval: u64, marks: &mut [u8])
     requires { ⌜ length (now marks) ≡ length (now ledger) ⌝ }
     ensures { λ _. ⌜ now (marks .exit) ≡ fullMarks interval (now (ledger .entry)) ⌝ }
 {
-    let mut i: usize = 0;
-    while i < ledger.len() {
-        marks[i] = if ledger[i] > interval { 2 } else { 0 };
-        i += 1;
+    let mut line: usize = 0;
+    while line < ledger.len() {
+        marks[line] = if ledger[line] > interval { 2 } else { 0 };
+        line += 1;
     }
 }
 

@@ -58,11 +58,11 @@ width-is n h =
     least zero v l k = omega arith
     least (suc m) v l k = smaller (omega (arith, pow-suc 2 m)) k
 
--- an interval's width is below 64, so `1 << width` at 64 bits is 2 ^ width
-pub narrow : (J : ℕ) → 1 ≤ J → J ≤ mostInterval → 64 - leadingZeros 64 (J - 1) < 64
-narrow J h m = let l = bits-right (J - 1) .least 32 (omega arith) in omega (arith, width-is (J - 1) (omega arith))
+-- a number up to the largest interval is narrower than 64 bits, so `1 << width` at 64 bits is 2 ^ width
+pub narrow : (n : ℕ) → n ≤ mostInterval → 64 - leadingZeros 64 n < 64
+narrow n m = let l = bits-right n .least 32 (omega arith) in omega (arith, width-is n (omega arith))
 
-pub range-is : (J : ℕ) → 1 ≤ J → J ≤ mostInterval → (1 * 2 ^ (64 - leadingZeros 64 (J - 1))) % 2 ^ 64 ≡ 2 ^ bits (J - 1)
-range-is J h m =
-    let k = narrow J h m in
-    shl-exact {a = 1} 1 (64 - leadingZeros 64 (J - 1)) 64 (lit< tt) (omega arith) ∙ one-mul _ ∙ ap (λ (w : ℕ). 2 ^ w) (width-is (J - 1) (omega arith))
+pub range-is : (n last : ℕ) → n ≤ mostInterval → n ≡ last → (1 * 2 ^ (64 - leadingZeros 64 n)) % 2 ^ 64 ≡ 2 ^ bits last
+range-is n last m e =
+    let k = narrow n m in
+    shl-exact {a = 1} 1 (64 - leadingZeros 64 n) 64 (lit< tt) (omega arith) ∙ one-mul _ ∙ ap (λ (w : ℕ). 2 ^ w) (width-is n (omega arith)) ∙ ap (λ (k : ℕ). 2 ^ bits k) e

@@ -49,6 +49,10 @@ module _ {old : List ℕ} {from to : ℕ} {buffer : List ℕ} {i : ℕ} (c : Cle
   pub clear-done : to ≤ i → buffer ≡ zeroed old from to
   clear-done h = let z : i ≡ to = omega (arith, c .within) in c .same ∙ ap (zeroed old from) z
 
+-- an error after zeros
+pub error-set : (old : List ℕ) {buffer : List ℕ} (from line error : ℕ) → buffer ≡ zeroed old from line → set buffer line error ≡ set (zeroed old from line) line error
+error-set old from line error cleared = ap (λ (l : List ℕ). set l line error) cleared
+
 pub over-zeroed : (xs old : List ℕ) (b : ℕ) → length xs ≤ b → zeroed (over xs old) (length xs) b ≡ over (padTo b xs) old
 unfolding zeroed
 over-zeroed xs old b h =

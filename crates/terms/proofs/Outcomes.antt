@@ -21,6 +21,11 @@ pub after-accepted : {A B : Type 0} (next : A → Outcome B) (o : Outcome A) (b 
 after-accepted next (accepted a) b e = (a, refl, e)
 after-accepted next (refused n p) b e = never e
 
+-- a refusal that comes through a step which refuses nothing
+pub refused-first : {A B : Type 0} {n p : ℕ} (next : A → B) (o : Outcome A) → refused n p ≡ after (λ a. accepted (next a)) o → o ≡ refused n p
+refused-first next (accepted a) e = never e
+refused-first next (refused k q) e = cc
+
 -- the outcome is accepted, or refused by one of these numbers
 abbrev pub among : ℕ → List ℕ → Bool
 among n [] = false

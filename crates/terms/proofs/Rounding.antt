@@ -5,11 +5,6 @@ use native.Mathlib.Nat.{le-div-iff-mul-le, suc-mul, le-of-suc-le-suc, lt-of-not-
 use native.Mathlib.Omega.{arith}
 use Rattle.terms.specs.Numbers.{divUp}
 
--- as code computes it
-pub divUp-is : (a b : ℕ) → (a + (b - 1)) / b ≡ divUp a b
-unfolding divUp
-divUp-is a b = refl
-
 module _ (k x b : ℕ) (some : 0 < b) where
   -- k is below x / b rounded up exactly when k * b is below x
   pub below-divUp : k < divUp x b → k * b < x
@@ -25,3 +20,8 @@ module _ (k x b : ℕ) (some : 0 < b) where
 
 pub divUp-enough : (x b : ℕ) → 0 < b → x ≤ divUp x b * b
 divUp-enough x b some = le-of-suc-le-suc (lt-of-not-le (λ l. omega (arith, divUp-above (divUp x b) x b some l)))
+
+-- as code computes it
+pub divUp-is : (a b : ℕ) → (a + (b - 1)) / b ≡ divUp a b
+unfolding divUp
+divUp-is a b = refl

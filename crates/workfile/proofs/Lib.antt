@@ -10,4 +10,5 @@ pub mod OneFile
 pub mod RoundTrip
 pub mod Longest
 pub mod Promises
+pub mod Held
 pub mod Worked

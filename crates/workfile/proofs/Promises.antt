@@ -35,27 +35,34 @@ write-made : (r : WriteAnswer) → Made write.Written write.Refused r
 write-made (write.Written a) = good a
 write-made (write.Refused why) = bad why
 
+-- an answer is what it says
+pub read-answer : {o : Outcome Contents} (r s : ReadAnswer) → readSays r ≡ o → readSays s ≡ o → r ≡ s
+read-answer = one-answer readSays read.Read read.Refused (λ a. refl) (λ why. refl) read-made
+
+pub write-answer : {o : Outcome ℕ} (r s : WriteAnswer) → writeSays r ≡ o → writeSays s ≡ o → r ≡ s
+write-answer = one-answer writeSays write.Written write.Refused (λ a. refl) (λ why. refl) write-made
+
 -- any two results that meet a promise agree
 pub read-once : {f w v e w₁ v₁ e₁ w₂ v₂ e₂ : List ℕ} {r₁ r₂ : ReadAnswer} → ReadPromise f w v e r₁ w₁ v₁ e₁ → ReadPromise f w v e r₂ w₂ v₂ e₂
     → (r₁ ≡ r₂) × (w₁ ≡ w₂) × (v₁ ≡ v₂) × (e₁ ≡ e₂)
 read-once {r₁} {r₂} p q =
-    (one-answer readSays read.Read read.Refused (λ a. refl) (λ why. refl) read-made r₁ r₂ (p .answer) (q .answer), p .words-left ∙ sym (q .words-left), p .values-left ∙ sym (q .values-left), p .errors-left ∙ sym (q .errors-left))
+    (read-answer r₁ r₂ (p .answer) (q .answer), p .words-left ∙ sym (q .words-left), p .values-left ∙ sym (q .values-left), p .errors-left ∙ sym (q .errors-left))
 
 pub write-once : {plan : Plan} {w v e f f₁ f₂ : List ℕ} {r₁ r₂ : WriteAnswer} → WritePromise plan w v e f r₁ f₁ → WritePromise plan w v e f r₂ f₂ → (r₁ ≡ r₂) × (f₁ ≡ f₂)
-write-once {r₁} {r₂} p q = (one-answer writeSays write.Written write.Refused (λ a. refl) (λ why. refl) write-made r₁ r₂ (p .answer) (q .answer), p .file-left ∙ sym (q .file-left))
+write-once {r₁} {r₂} p q = (write-answer r₁ r₂ (p .answer) (q .answer), p .file-left ∙ sym (q .file-left))
 
 -- the room comes first
 pub short-words : (f : List ℕ) (w v e : ℕ) → w < mostWords → readOf f w v e ≡ refused 18 mostWords
 unfolding readOf
-short-words f w v e h = rw (lt-ltb w mostWords h)
+short-words f w v e h = rw (lt-ltb w mostWords h) refl
 
 pub short-values : (f : List ℕ) (w v e : ℕ) → mostWords ≤ w → v < mostFileLines → readOf f w v e ≡ refused 18 mostFileLines
 unfolding readOf
-short-values f w v e a h = rw (le-ltb w mostWords a, lt-ltb v mostFileLines h)
+short-values f w v e a h = rw (le-ltb w mostWords a, lt-ltb v mostFileLines h) refl
 
 pub short-errors : (f : List ℕ) (w v e : ℕ) → mostWords ≤ w → mostFileLines ≤ v → e < mostFileLines → readOf f w v e ≡ refused 18 mostFileLines
 unfolding readOf
-short-errors f w v e a b h = rw (le-ltb w mostWords a, le-ltb v mostFileLines b, lt-ltb e mostFileLines h)
+short-errors f w v e a b h = rw (le-ltb w mostWords a, le-ltb v mostFileLines b, lt-ltb e mostFileLines h) refl
 
 -- with room enough the file decides
 pub roomy : (f w v e : List ℕ) → Rooms w v e → readOf f (length w) (length v) (length e) ≡ decode f

@@ -66,7 +66,7 @@ module _ (f : List ℕ) (s : Stop) where
 
   pub decided-bad : fits (tallyOf (s .read)) (recordAt f (s .at)) ≡ false → decided f s ≡ refused 17 (s .at)
   unfolding decided
-  decided-bad h = rw h
+  decided-bad h = rw h refl
 
 -- the run of a file is decided where it stops
 run-decided : (k : ℕ) (c : Content) (at : ℕ) (f : List ℕ) → length f - at < k → at ≤ length f → run k c at (drop at f) ≡ decided f (stop k c at (drop at f))

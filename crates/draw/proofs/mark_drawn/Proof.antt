@@ -23,7 +23,7 @@ mark-drawn-spec =
     (λ c. search reached-end-fits)
     (λ c. search needs)
     (λ c. search reached-point-fits)
-    (λ c κs. search reached-after)
+    (λ c κs. search (reached-after, needs))
     (λ c. search reached-less)
     (λ c. search reached-next)
     (λ c. search reached-same)

@@ -31,5 +31,5 @@ reliability-spec =
     (λ c. omega (arith, c .row .ensures, row-lt (search)))
     (λ c. omega (arith, c .row .ensures, row-lt (search)))
     (λ c. search needs)
-    (λ c. read _ _ _ _ (c .wide .ensures) (c .before .row .ensures) (omega arith))
+    (λ c. read _ _ _ (c .wide .result) (search needs) (c .before .row .ensures) (omega arith))
     (λ c. record { value = sym (rf-out _ _ (omega arith)); rule = λ h. absurd (omega arith) }))

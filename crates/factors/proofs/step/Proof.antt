@@ -1,6 +1,6 @@
 -- `factors::step` meets its contract: both factors are at most 8407, so no difference leaves 64 bits. Assumes nothing.
 use mathlib.Core.Path.{_≡_, sym, ap₂, _∙_}
-use Prim.Native.Nat.{ℕ, _+_, _≤_}
+use Prim.Native.Nat.{ℕ, _+_, _-_, _≤_, _<_}
 use native.Mathlib.Nat.{le-trans, le-of-eq}
 use native.Mathlib.Omega.{arith}
 use borrow.Author.Needs.{needs}
@@ -10,7 +10,7 @@ use mir.Syntax.{w64}
 use mir.Val.{SFits, toZ, ofZ}
 use Rattle.terms.proofs.Differences.{minus, mag-sub}
 use Rattle.factors.specs.declared.Level.{Level}
-use Rattle.factors.specs.Factors.{Reliability}
+use Rattle.factors.specs.Factors.{Reliability, stepOf}
 use Rattle.factors.proofs.Shape.{rf-top}
 use Rattle.factors.proofs.Steps.{less-hundred, step-at, step-none, step-past}
 use Rattle.factors.proofs.step.Statement.{statement}
@@ -34,11 +34,14 @@ module _ (a b : ℕ) (h : a ≤ 8407) (g : b ≤ 8407) where
   worth : toZ w64 (ofZ w64 (toZ w64 (ofZ w64 (toZ w64 a -ℤ toZ w64 b)) -ℤ pos 100)) ≡ (pos a -ℤ pos b) -ℤ pos 100
   worth = rw (toZ-ofZ differ-2, toZ-ofZ differ, small a h, small b g)
 
+-- the factors of k and of the number before it make the step
+stepped : {l : Level} {k a b : ℕ} → Reliability l k a → Reliability l (k - 1) b → (k ≡ 0 → ⊥) → k < 64 →
+    toZ w64 (ofZ w64 (toZ w64 (ofZ w64 (toZ w64 a -ℤ toZ w64 b)) -ℤ pos 100)) ≡ stepOf l k
+stepped {l} {k} {a} {b} r q some few =
+    worth a b (top r) (top q) ∙ ap₂ (λ (a b : ℕ). (pos a -ℤ pos b) -ℤ pos 100) (r .value) (q .value) ∙ sym (step-at l k some few)
+
 returns-3 : tie.Need-returns-3
-returns-3 c =
-    worth _ _ (top (c .before .reliability .ensures)) (top (c .reliability2 .ensures))
-    ∙ ap₂ (λ (a b : ℕ). (pos a -ℤ pos b) -ℤ pos 100) (c .before .reliability .ensures .value) (c .reliability2 .ensures .value)
-    ∙ sym (step-at _ _ (search) (omega arith))
+returns-3 c = stepped {b = c .reliability2 .result} (c .before .reliability .ensures) (search needs) (search needs) (omega arith)
 
 pub step-spec : {M : Type 1} → statement M
 step-spec =

@@ -1,4 +1,5 @@
 -- `judge::conclude` meets its contract: the sums fit, and the verdict is the definition's. Assumes nothing.
+use native.Mathlib.Omega.{arith}
 use borrow.Author.Needs.{needs}
 use Rattle.judge.proofs.Answer.{concludes}
 use Rattle.judge.proofs.conclude.Statement.{statement}
@@ -9,4 +10,4 @@ conclude-spec =
     tie.close
     (tie.spec
     (λ c. search needs) (λ c. search needs) (λ c κs. search needs)
-    (λ c. search concludes))
+    (λ c. concludes _ _ _ _ (c .verdict-of .result) (omega arith) (c .verdict-of .ensures)))

@@ -1,5 +1,6 @@
 -- `ledger::judge_lines` meets its contract. The invariant: the total so far is within its limit, and judging on from here gives what
 -- judging the whole does. The measure is what is left of the length. Assumes nothing.
+use native.Mathlib.Omega.{arith}
 use borrow.Author.Needs.{needs}
 use Prim.Native.Nat.{_-_}
 use lib.ListN.{length}
@@ -19,7 +20,7 @@ judge-lines-spec =
     (tie.spec Inv-loop μ-loop
     (λ c. first-line)
     (λ c. search needs) (λ c. search needs)
-    (λ c. search value-too-large)
+    (λ c. value-too-large (c .before .before .before .loop .inv) (omega arith) (omega arith))
     (λ c. search needs)
     (λ c. search total-too-large)
     (λ c. search needs) (λ c. search needs)

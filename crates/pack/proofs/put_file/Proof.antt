@@ -25,11 +25,11 @@ write-all-requires c κs = search needs
 enum-told : tie.Need-enum-told
 enum-told c = search needs
 
-slice-aggregate-write-all-2 : tie.Need-slice-aggregate-write-all-2
-slice-aggregate-write-all-2 c = search needs
+slice-aggregate-say : tie.Need-slice-aggregate-say
+slice-aggregate-say c = search needs
 
-write-all-requires-2 : tie.Need-write-all-requires-2
-write-all-requires-2 c κs = search needs
+say-requires : tie.Need-say-requires
+say-requires c κs = search needs
 
 returns : tie.Need-returns
 returns c = search needs
@@ -48,7 +48,7 @@ put-file-spec =
     slice-aggregate-write-all
     write-all-requires
     enum-told
-    slice-aggregate-write-all-2
-    write-all-requires-2
+    slice-aggregate-say
+    say-requires
     returns
     returns-2)

@@ -1,5 +1,6 @@
 -- `project::gather` meets its contract. The invariant: the whole follows from what is gathered so far and the lines to come. The measure is what
 -- is left of the length. Assumes nothing.
+use native.Mathlib.Omega.{arith}
 use borrow.Author.Needs.{needs}
 use Prim.Native.Nat.{_-_}
 use lib.ListN.{length}
@@ -26,7 +27,7 @@ gather-spec =
     (tie.spec
     Inv-loop
     μ-loop
-    (λ c. search gathering-none)
+    (λ c. gathering-none _ _ _ _ _ _ (omega arith))
     (λ c. search needs) (λ c. search needs) (λ c. search needs) (λ c. search needs) (λ c. search needs)
     (λ c κs. search gathering-room)
     (λ c. search needs)

@@ -1,17 +1,18 @@
 -- `reader::read` meets its promise: each `return` is a case of it. Assumes nothing.
 use borrow.Author.Needs.{needs}
+use native.Mathlib.Omega.{arith}
 use Rattle.reader.proofs.Answers.{no-words, no-values, no-errors, broken-file, read-file, is-legal}
 use Rattle.reader.proofs.read.Statement.{statement}
 use Rattle.reader.proofs.read.Tie as tie
 
 returns : tie.Need-returns
-returns c = search (needs, no-words)
+returns c = no-words _ _ _ _ (omega arith)
 
 returns-2 : tie.Need-returns-2
-returns-2 c = search (needs, no-values)
+returns-2 c = no-values _ _ _ _ (omega arith) (omega arith)
 
 returns-3 : tie.Need-returns-3
-returns-3 c = search (needs, no-errors)
+returns-3 c = no-errors _ _ _ _ (omega arith) (omega arith) (omega arith)
 
 check-requires : tie.Need-check-requires
 check-requires c κs = search needs

@@ -1,6 +1,7 @@
 -- `sheet::print_file` meets its contract: the line of refusal 17, or the text of the content that was read. Assumes nothing.
 use native.Mathlib.Omega.{arith}
-use Rattle.sheet.proofs.Reading.{desk-rooms, file-refused, AtRead, words-long, values-long, errors-long, words-fit, values-fit, errors-fit, file-read, text-room}
+use Rattle.workfile.proofs.Held.{empty-rooms, AtRead, words-long, values-long, errors-long, words-fit, values-fit, errors-fit}
+use Rattle.sheet.proofs.Reading.{file-refused, file-read, text-room}
 use Rattle.sheet.proofs.Paging.{as-bounded}
 use borrow.Author.Needs.{needs}
 use Rattle.sheet.proofs.print_file.Statement.{statement}
@@ -9,7 +10,7 @@ use Rattle.sheet.proofs.print_file.Tie as tie
 -- what the match has found is what was read
 at-read : (c : tie.After-contents) → let at = c .before .before .before .before .before in
     AtRead (at .before .before .before .before .before .before .args .file .now) (c .contents .given .0 .0) (at .read .last .1 .0) (at .read .last .1 .1 .0) (at .read .last .1 .1 .1 .0)
-at-read c = let at = c .before .before .before .before .before in record { words = _; values = _; errors = _; answer = _; rooms = desk-rooms; promise = at .read .ensures; told = c .contents .given .1 }
+at-read c = let at = c .before .before .before .before .before in record { words = _; values = _; errors = _; answer = _; rooms = empty-rooms; promise = at .read .ensures; told = c .contents .given .1 }
 
 slice-aggregate-read : tie.Need-slice-aggregate-read
 slice-aggregate-read c = search needs
@@ -60,7 +61,7 @@ returns : tie.Need-returns
 returns c =
     let why = c .before .before .before .before .before in
     let at = why .before .before .before .before .before in
-    as-bounded (file-refused desk-rooms (at .read .ensures) _ (why .why .given .1)) (omega arith) (c .before .before .refused-line .ensures)
+    as-bounded (file-refused empty-rooms (at .read .ensures) _ (why .why .given .1)) (omega arith) (c .before .before .refused-line .ensures)
 
 same-length-2 : tie.Need-same-length-2
 same-length-2 c = search needs

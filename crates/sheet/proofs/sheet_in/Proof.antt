@@ -7,7 +7,7 @@ use Rattle.sheet.proofs.sheet_in.Statement.{statement}
 use Rattle.sheet.proofs.sheet_in.Tie as tie
 
 returns : tie.Need-returns
-returns c = page-short _ _ (c .if1 .taken)
+returns c = page-short _ _ (omega arith)
 
 print-file-requires : tie.Need-print-file-requires
 print-file-requires c κs = search needs
@@ -18,8 +18,7 @@ same-length c = search needs
 returns-2 : tie.Need-returns-2
 returns-2 c =
     let text = c .before .before .print-file .ensures in
-    let long = c .before .before .before .before .if1 .left in
-    page-long _ _ long _ _ (printed _ _ _ _ (omega (arith, text .1)) (text .0))
+    page-long _ _ (omega arith) _ _ (printed _ _ _ _ (omega (arith, text .1)) (text .0))
 
 pub sheet-in-spec : {M : Type 1} → statement M
 sheet-in-spec = tie.close (tie.spec returns print-file-requires same-length returns-2)

@@ -1,4 +1,5 @@
 -- `start::range_of` meets its contract: each answer is a law of `Bits`. Assumes nothing.
+use native.Mathlib.Omega.{arith}
 use lib.Count.{leading-le}
 use Rattle.start.proofs.Bits.{narrow, range-is}
 use borrow.Author.Needs.{needs}
@@ -12,5 +13,5 @@ range-of-spec =
     (λ c. search needs)
     (λ c. leading-le 64 _)
     (λ c. search needs)
-    (λ c. narrow _ (c .pre .0) (c .pre .1))
-    (λ c. range-is _ (c .pre .0) (c .pre .1)))
+    (λ c. narrow _ (omega arith))
+    (λ c. range-is _ _ (omega arith) (omega arith)))

@@ -1,5 +1,6 @@
 -- `store::put_error` meets its contract: the lines passed over are cleared. Assumes nothing.
 use borrow.Author.Needs.{needs}
+use Rattle.store.proofs.Placing.{error-set}
 use Rattle.store.proofs.put_error.Statement.{statement}
 use Rattle.store.proofs.put_error.Tie as tie
 
@@ -16,7 +17,7 @@ same-length : tie.Need-same-length
 same-length c = search needs
 
 returns : tie.Need-returns
-returns c = cc
+returns c = search error-set
 
 pub put-error-spec : {M : Type 1} → statement M
 put-error-spec =

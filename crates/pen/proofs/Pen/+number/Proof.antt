@@ -1,7 +1,8 @@
 -- `pen::Pen::number` meets its contract, by recursion; the number falls. Assumes nothing.
 use borrow.Author.Needs.{needs}
 use native.Mathlib.Omega.{arith}
-use Rattle.pen.proofs.Writing.{small-laid, more-laid}
+use Rattle.pen.proofs.Decimals.{decimal-small, decimal-more}
+use Rattle.pen.proofs.Writing.{_⨾_, as-text}
 use Prim.Native.Nat.{ℕ, _<_}
 use borrow.Fn.Kinds.{In}
 use borrow.Fn.PlainCycle.{Measures, is, falls, and}
@@ -38,7 +39,7 @@ number-same-length : (t : ℕ) → number-lts.Need-same-length (calls t) (number
 number-same-length t c = search needs
 
 number-returns : (t : ℕ) → number-lts.Need-returns (calls t) (number-at t) number.Post
-number-returns t c = search (needs, small-laid)
+number-returns t c = as-text (decimal-small _ (omega arith)) (search needs)
 
 number-number-requires : (t : ℕ) → number-lts.Need-number-requires (calls t) (number-at t) number.Post
 number-number-requires t c κs = (omega (arith, c .before .before .before .pre .0), tt)
@@ -56,7 +57,7 @@ number-same-length-2 : (t : ℕ) → number-lts.Need-same-length-2 (calls t) (nu
 number-same-length-2 t c = search needs
 
 number-returns-2 : (t : ℕ) → number-lts.Need-returns-2 (calls t) (number-at t) number.Post
-number-returns-2 t c = search (needs, more-laid)
+number-returns-2 t c = as-text (decimal-more _ (omega arith)) (search (needs, _⨾_))
 
 pub +number-spec : {M : Type 1} → statement M
 +number-spec = close μ-number λ t. number-lts.spec (calls t)

@@ -4,8 +4,8 @@ use Rattle.reader.proofs.Second.{contents-of}
 use Rattle.reader.proofs.storing.contents.Statement.{statement}
 use Rattle.reader.proofs.storing.contents.Tie as tie
 
-shared-slice-read-t4 : tie.Need-shared-slice-read-t4
-shared-slice-read-t4 c = search needs
+shared-slice-read-level : tie.Need-shared-slice-read-level
+shared-slice-read-level c = search needs
 
 eight-bytes-requires : tie.Need-eight-bytes-requires
 eight-bytes-requires c κs = search needs
@@ -17,4 +17,4 @@ returns : tie.Need-returns
 returns c = search contents-of
 
 pub contents-spec : {M : Type 1} → statement M
-contents-spec = tie.close (tie.spec shared-slice-read-t4 eight-bytes-requires eight-bytes-requires-2 returns)
+contents-spec = tie.close (tie.spec shared-slice-read-level eight-bytes-requires eight-bytes-requires-2 returns)

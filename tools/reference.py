@@ -231,8 +231,6 @@ def split_rounds(ledger, n):
     remaining, full, draws_left, intervals = list(range(len(ledger))), [], n, []
     while True:
         remaining_total = sum(ledger[line] for line in remaining)
-        if remaining_total > 0 and draws_left <= 0:
-            raise Refused(9, 0)
         interval = remaining_total // draws_left if remaining_total > 0 else 0
         intervals.append(interval)
         above = [line for line in remaining if ledger[line] > interval]

@@ -175,6 +175,8 @@ def practice_all_starts():
     while checked < 400:
         ledger, n, true_errors = random_case(r)
         answer = split(ledger, n, [9] * len(ledger))
+        if isinstance(answer, Split):
+            same("a draw is left", answer.draws_left >= 1, True)
         if isinstance(answer, Split) and answer.interval > 0:
             check_all_starts(ledger, n, true_errors)
             checked += 1

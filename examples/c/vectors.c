@@ -165,6 +165,7 @@ static void split_case(void)
 {
     byte_room();
     struct mus_split_result r = mus_split(ledger, ledger_length, first, bytes, room_length);
+    if (r.refusal == MUS_ACCEPTED) expect(r.draws_left >= 1, "an accepted split leaves a draw");
     say(" split");
     say_answer(r.refusal, r.place, &r.interval, 5);
     say(" lent");

@@ -10,7 +10,7 @@ use Rattle.terms.specs.Outcome.{Outcome, accepted, refused}
 use Rattle.terms.specs.Numbers.{sum}
 use Rattle.terms.specs.Limits.{mostInterval}
 use Rattle.split.specs.Rounds.{above, upTo, Rest, splitLines}
-use Rattle.split.specs.Split.{Totalled, sampled, figuresOf, withinMost, settledOf, figuresFrom}
+use Rattle.split.specs.Split.{Totalled, sampled, figuresOf, withinMost, figuresFrom}
 use Rattle.split.specs.declared.Figures.{Figures}
 use Rattle.split.specs.declared.Sampled.{Sampled}
 use Rattle.split.proofs.Lines.{sum-parts, within-sum}
@@ -24,8 +24,11 @@ module _ {ledger : List ℕ} {t : ℕ} (at : Totalled ledger t) where
   all-lines : upTo t ledger ≡ ledger
   all-lines = let e = at .added in within-sum t ledger (omega arith)
 
-  pub rest-asked : (sum ledger < 2 ^ 64) × (t ≡ sum (upTo t ledger))
-  rest-asked = let e = at .added in let m = at .most in (omega arith, omega (arith, ap sum all-lines))
+  pub sum-small : sum ledger < 2 ^ 64
+  sum-small = let e = at .added in let m = at .most in omega arith
+
+  pub sum-whole : t ≡ sum (upTo t ledger)
+  sum-whole = let e = at .added in omega (arith, ap sum all-lines)
 
 -- 10, by whether the interval is above its maximum
 module _ (f : Figures) where
@@ -35,25 +38,14 @@ module _ (f : Figures) where
   pub interval-within : f .interval ≤ mostInterval → accepted f ≡ withinMost f
   interval-within h = simp (le-ltb _ _ h)
 
--- 9, by whether draws are left, and whether lines with value are
-module _ (f : Figures) {o : Outcome Figures} where
-  pub draws-remain : (f .«draws_left» ≡ 0 → ⊥) → o ≡ withinMost f → o ≡ settledOf f
-  draws-remain some e = simp (ne-eqb _ _ some) e
-
-  pub draws-used-up : f .«draws_left» ≡ 0 → 0 < f .«sampled_total» → o ≡ refused 9 0 → o ≡ settledOf f
-  draws-used-up none some e = simp (eq-eqb _ _ none, lt-ltb _ _ some) e
-
-  pub nothing-remains : f .«draws_left» ≡ 0 → f .«sampled_total» ≤ 0 → o ≡ withinMost f → o ≡ settledOf f
-  nothing-remains none worth e = simp (eq-eqb _ _ none, le-ltb _ _ worth) e
-
--- 8, or what the figures settle to
+-- 8, or what the figures come to
 pub no-draws : (ledger : List ℕ) (n : ℕ) → n ≡ 0 → refused 8 0 ≡ figuresFrom ledger n
 unfolding figuresFrom
 no-draws ledger n e = sym (simp (eq-eqb _ _ e))
 
-pub with-draws : (ledger : List ℕ) (n : ℕ) {f : Figures} {o : Outcome Figures} → (n ≡ 0 → ⊥) → f ≡ figuresOf ledger (splitLines ledger n) → o ≡ settledOf f → o ≡ figuresFrom ledger n
+pub with-draws : (ledger : List ℕ) (n : ℕ) {f : Figures} {o : Outcome Figures} → (n ≡ 0 → ⊥) → f ≡ figuresOf ledger (splitLines ledger n) → o ≡ withinMost f → o ≡ figuresFrom ledger n
 unfolding figuresFrom
-with-draws ledger n some e s = s ∙ ap settledOf e ∙ sym (simp (ne-eqb _ _ some))
+with-draws ledger n some e s = s ∙ ap withinMost e ∙ sym (simp (ne-eqb _ _ some))
 
 -- where the recursion has answered s
 module _ {ledger : List ℕ} {n t : ℕ} {s : Sampled} (at : Totalled ledger t) (some : 0 < n) (answer : s ≡ sampled (splitLines (upTo t ledger) n)) where

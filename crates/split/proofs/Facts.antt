@@ -1,4 +1,4 @@
--- What holds of every split, as an accepted answer's figures say it; and refusal 9 is never given. Assumes nothing.
+-- What holds of every split, as an accepted answer's figures say it; and which refusals are given. Assumes nothing.
 use mathlib.Core.Path.{_≡_, refl, sym, ap, subst, _∙_}
 use mathlib.Core.List.{List, [], _∷_}
 use mathlib.Core.Bool.{Bool, true, false}
@@ -21,7 +21,7 @@ use Rattle.ledger.specs.declared.LedgerAnswer.the-variants as judged
 use Rattle.ledger.specs.Ledger.{ledgerSays, ledgerOf, LedgerPromise}
 use Rattle.ledger.proofs.Laws.{Good, good, ledgerNumbers, ledger-gives}
 use Rattle.split.specs.Rounds.{above, upTo, intervalOf, Rest, splitLines, intervals, becomesFull}
-use Rattle.split.specs.Split.{splitSays, Totalled, figuresOf, withinMost, figuresFrom, splitOf, fullMarks, marksOf, FiguresPromise, SplitPromise}
+use Rattle.split.specs.Split.{splitSays, Totalled, figuresOf, withinMost, figuresFrom, splitOf, fullMarks, marksOf, KeepsDraw, FiguresPromise, SplitPromise}
 use Rattle.split.specs.declared.Figures.{Figures}
 use Rattle.split.specs.declared.SplitAnswer.{SplitAnswer}
 use Rattle.split.specs.declared.SplitAnswer.the-variants.{Split, Refused}
@@ -52,14 +52,9 @@ pub record SplitFacts (ledger : List ℕ) (n beside : ℕ) (f : Figures) : Type 
   pub zero : f .interval ≡ 0 → f .«sampled_total» ≡ 0
 
 module _ (ledger : List ℕ) (n : ℕ) (some : 0 < n) where
-  -- a draw is left, so 9 is not given
   pub settled-is : figuresFrom ledger n ≡ withinMost (figuresOf ledger (splitLines ledger n))
   unfolding figuresFrom
-  settled-is =
-      let k = split-settles ledger n some in
-      let draws : n ≡ 0 → ⊥ = λ z. omega arith in
-      let draw : splitLines ledger n .draws ≡ 0 → ⊥ = λ z. omega arith in
-      simp (ne-eqb _ _ draws, ne-eqb _ _ draw)
+  settled-is = let draws : n ≡ 0 → ⊥ = λ z. omega arith in simp (ne-eqb _ _ draws)
 
   facts-of : (beside : ℕ) (f : Figures) → Good ledger beside (sum ledger) → splitLines ledger n .interval ≤ mostInterval → f ≡ figuresOf ledger (splitLines ledger n) → SplitFacts ledger n beside f
   facts-of beside f g top same =
@@ -100,6 +95,10 @@ split-facts ledger n beside f e =
     let whole : Good ledger beside (sum ledger) = record { few = g .few; same = g .same; added = refl; some = omega arith; most = omega arith } in
     facts-settled ledger n (some-draws ledger n (a .2)) beside f whole (a .2)
 
+-- the split keeps a draw: the lines above J are always fewer than the draws (`few` of Laws.antt)
+pub keeps-draw : (ledger : List ℕ) (n beside : ℕ) {o : Outcome Figures} → o ≡ splitOf ledger n beside → KeepsDraw o
+keeps-draw ledger n beside e f h = omega (arith, split-facts ledger n beside f (sym e ∙ h) .a-draw)
+
 -- the split is what follows from the ledger's outcome
 pub from-ledger : (ledger : List ℕ) (n beside : ℕ) {o : Outcome ℕ} → o ≡ ledgerOf ledger beside → after (λ total. figuresFrom ledger n) o ≡ splitOf ledger n beside
 unfolding splitOf
@@ -109,12 +108,15 @@ pub totalled : (ledger : List ℕ) (beside total : ℕ) → accepted total ≡ l
 totalled ledger beside total e = let g = good ledger beside total (sym e) in record { added = g .added; most = g .most }
 
 -- as `split_figures` meets it
+figures-promised : {ledger : List ℕ} {n beside : ℕ} {r : SplitAnswer} → splitSays r ≡ splitOf ledger n beside → FiguresPromise ledger n beside r
+figures-promised {ledger} {n} {beside} e = record { answer = e; draw-kept = keeps-draw ledger n beside e }
+
 module _ {ledger : List ℕ} {n beside : ℕ} {r : LedgerAnswer} where
   pub judged-refused : {why : Refusal} → r ≡ judged.Refused why → LedgerPromise ledger beside r → FiguresPromise ledger n beside (Refused why)
-  judged-refused is e = record { answer = from-ledger ledger n beside (sym (ap ledgerSays is) ∙ e .answer) }
+  judged-refused is e = figures-promised (from-ledger ledger n beside (sym (ap ledgerSays is) ∙ e .answer))
 
   pub judged-split : {total : ℕ} {a : SplitAnswer} → r ≡ judged.Total total → LedgerPromise ledger beside r → splitSays a ≡ figuresFrom ledger n → FiguresPromise ledger n beside a
-  judged-split is e s = record { answer = s ∙ from-ledger ledger n beside (sym (ap ledgerSays is) ∙ e .answer) }
+  judged-split is e s = figures-promised (s ∙ from-ledger ledger n beside (sym (ap ledgerSays is) ∙ e .answer))
 
 pub judged-asked : {ledger : List ℕ} {beside total : ℕ} {r : LedgerAnswer} → r ≡ judged.Total total → LedgerPromise ledger beside r → Totalled ledger total
 judged-asked {ledger} {beside} {total} is e = totalled ledger beside total (sym (ap ledgerSays is) ∙ e .answer)
@@ -122,15 +124,15 @@ judged-asked {ledger} {beside} {total} is e = totalled ledger beside total (sym 
 -- as `split` meets it
 module _ {ledger : List ℕ} {n : ℕ} {marks : List ℕ} {r : SplitAnswer} where
   pub marks-kept : {why : Refusal} → r ≡ Refused why → FiguresPromise ledger n (length marks) r → SplitPromise ledger n marks (Refused why) marks
-  marks-kept is p = let e = sym (ap splitSays is) ∙ p .answer in record { answer = e; marks-left = ap (left (marksOf ledger) marks) e }
+  marks-kept is p = let e = sym (ap splitSays is) ∙ p .answer in record { answer = e; draw-kept = keeps-draw ledger n (length marks) e; marks-left = ap (left (marksOf ledger) marks) e }
 
   pub split-marked : {f : Figures} {marks′ : List ℕ} → r ≡ Split f → FiguresPromise ledger n (length marks) r → marks′ ≡ fullMarks (f .interval) ledger → SplitPromise ledger n marks (Split f) marks′
-  split-marked is p m = let e = sym (ap splitSays is) ∙ p .answer in record { answer = e; marks-left = m ∙ ap (left (marksOf ledger) marks) e }
+  split-marked is p m = let e = sym (ap splitSays is) ∙ p .answer in record { answer = e; draw-kept = keeps-draw ledger n (length marks) e; marks-left = m ∙ ap (left (marksOf ledger) marks) e }
 
 pub split-same : {ledger : List ℕ} {n beside : ℕ} {r : SplitAnswer} {f : Figures} → r ≡ Split f → FiguresPromise ledger n beside r → beside ≡ length ledger
 split-same {ledger} {n} {beside} {r} {f} is p = split-facts ledger n beside f (sym (p .answer) ∙ ap splitSays is) .ledger-good .same
 
--- the refusals that the split gives: 9 is not among them, and 8 only without draws
+-- the refusals that the split gives: 8 only without draws
 abbrev pub splitNumbers : List ℕ
 splitNumbers = 2 ∷ 13 ∷ 3 ∷ 4 ∷ 5 ∷ 8 ∷ 10 ∷ []
 

@@ -1,20 +1,20 @@
 -- The list of the rounds' intervals: it never grows, its last is the final J, and a line becomes full exactly when it exceeds that; each is
 -- that of its round, and the rounds end where the split does.
 -- Assumes nothing.
-use mathlib.Core.Path.{_≡_, refl, sym, subst}
+use mathlib.Core.Path.{_≡_, refl}
 use mathlib.Core.List.{List, [], _∷_}
 use mathlib.Core.Logic.{⊎-elim}
 use mathlib.Core.Bool.{Bool, true, false}
 use Prim.Native.Nat.{ℕ, zero, suc, _≤_, _<_}
 use native.Mathlib.Omega.{arith}
 use borrow.Author.Tests.{eq-eqb, ne-eqb, lt-ltb, le-ltb}
-use lib.Dec.{ltb}
+use lib.Dec.{ltb, eqb}
 use lib.ListN.{length}
 use Rattle.terms.specs.Numbers.{pick}
-use Rattle.terms.proofs.Tests.{le-or-lt}
+use Rattle.terms.proofs.Tests.{by-test, le-or-lt}
 use Rattle.split.specs.Rounds.{intervalOf, fullOf, linesAfter, drawsAfter, rounds, splitLines, intervals, becomesFull}
-use Rattle.split.specs.Intervals.{Rounds, no-draw, last, next}
-use Rattle.split.proofs.Laws.{Way, spent, done, again, way, few, falls, round-none, round-done, round-again}
+use Rattle.split.specs.Intervals.{Rounds, last, next}
+use Rattle.split.proofs.Laws.{Way, done, again, way, few, falls, round-done, round-again}
 
 abbrev pub NeverGrows : ℕ → List ℕ → Type 0
 NeverGrows j [] = Unit
@@ -25,28 +25,20 @@ lastOr j [] = j
 lastOr j (x ∷ l) = lastOr x l
 
 module _ (m : ℕ) (l : List ℕ) (d : ℕ) where
-  intervals-none : d ≡ 0 → intervals (suc m) l d ≡ []
+  intervals-done : length (fullOf l d) ≡ 0 → intervals (suc m) l d ≡ intervalOf l d ∷ []
   unfolding intervals
-  intervals-none e = simp (eq-eqb _ _ e)
+  intervals-done e = simp (eq-eqb _ _ e)
 
-  intervals-done : (d ≡ 0 → ⊥) → length (fullOf l d) ≡ 0 → intervals (suc m) l d ≡ intervalOf l d ∷ []
+  intervals-again : (length (fullOf l d) ≡ 0 → ⊥) → intervals (suc m) l d ≡ intervalOf l d ∷ intervals m (linesAfter l d) (drawsAfter l d)
   unfolding intervals
-  intervals-done w e = simp (ne-eqb _ _ w, eq-eqb _ _ e)
+  intervals-again e = simp (ne-eqb _ _ e)
 
-  intervals-again : (d ≡ 0 → ⊥) → (length (fullOf l d) ≡ 0 → ⊥) → intervals (suc m) l d ≡ intervalOf l d ∷ intervals m (linesAfter l d) (drawsAfter l d)
-  unfolding intervals
-  intervals-again w e = simp (ne-eqb _ _ w, ne-eqb _ _ e)
-
-pub never-grows : (m : ℕ) (l : List ℕ) (d j : ℕ) → intervalOf l d ≤ j → NeverGrows j (intervals m l d)
+pub never-grows : (m : ℕ) (l : List ℕ) (d j : ℕ) → 0 < d → intervalOf l d ≤ j → NeverGrows j (intervals m l d)
 unfolding intervals
-never-grows zero l d j p = tt
-never-grows (suc m) l d j p = go (way l d) (never-grows m (linesAfter l d) (drawsAfter l d) (intervalOf l d))
-  where
-    go : Way l d → (intervalOf (linesAfter l d) (drawsAfter l d) ≤ intervalOf l d → NeverGrows (intervalOf l d) (intervals m (linesAfter l d) (drawsAfter l d))) →
-        NeverGrows j (intervals (suc m) l d)
-    go (spent e) ih = rw (intervals-none m l d e) tt
-    go (done w e) ih = rw (intervals-done m l d w e) (p, tt)
-    go (again w e) ih = rw (intervals-again m l d w e) (p, ih (falls l d (omega arith)))
+never-grows zero l d j some p = tt
+never-grows (suc m) l d j some p =
+    let f = few l d some in
+    (p, by-test (NeverGrows (intervalOf l d)) (eqb (length (fullOf l d)) 0) (λ z. tt) (λ z. never-grows m (linesAfter l d) (drawsAfter l d) (intervalOf l d) (omega arith) (falls l d some)))
 
 pub last-is-final : (m : ℕ) (l : List ℕ) (d j : ℕ) → 0 < d → d ≤ m → lastOr j (intervals m l d) ≡ rounds m l d .interval
 last-is-final zero l d j p q = absurd (omega arith)
@@ -54,9 +46,8 @@ last-is-final (suc m) l d j p q = go (way l d) (last-is-final m (linesAfter l d)
   where
     go : Way l d → (0 < drawsAfter l d → drawsAfter l d ≤ m → lastOr (intervalOf l d) (intervals m (linesAfter l d) (drawsAfter l d)) ≡ rounds m (linesAfter l d) (drawsAfter l d) .interval) →
         lastOr j (intervals (suc m) l d) ≡ rounds (suc m) l d .interval
-    go (spent e) ih = absurd (omega arith)
-    go (done w e) ih = rw (intervals-done m l d w e, round-done m l d w e) refl
-    go (again w e) ih = rw (intervals-again m l d w e, round-again m l d w e) (let f = few l d p in ih (omega arith) (omega arith))
+    go (done e) ih = rw (intervals-done m l d e, round-done m l d e) refl
+    go (again e) ih = rw (intervals-again m l d e, round-again m l d e) (let f = few l d p in ih (omega arith) (omega arith))
 
 -- A line becomes full in the first round whose interval it exceeds. That happens exactly when it exceeds the final J.
 last-least : (j : ℕ) (js : List ℕ) → NeverGrows j js → lastOr j js ≤ j
@@ -83,24 +74,20 @@ full-exactly l n v p = go (intervals n l n) refl
         let b : 1 ≡ rounds n l n .interval = rw e at (last-is-final n l n 1 p (omega arith)) in
         absurd (omega arith)
     go (j ∷ js) e =
-        rw (← last-is-final n l n 0 p (omega arith), e) (full-at-last j js v (rw e at (never-grows n l n (intervalOf l n) (omega arith)) .1))
+        rw (← last-is-final n l n 0 p (omega arith), e) (full-at-last j js v (rw e at (never-grows n l n (intervalOf l n) p (omega arith)) .1))
 
--- no round, where there is no draw
-without : (lines : List ℕ) (draws : ℕ) → draws ≡ 0 → Rounds lines draws [] (record { interval = 0; draws = draws; lines = lines })
-without lines draws e = subst (λ (d : ℕ). Rounds lines d [] (record { interval = 0; draws = d; lines = lines })) (sym e) no-draw
-
-listed : (more : ℕ) (lines : List ℕ) (draws : ℕ) → draws ≤ more → Rounds lines draws (intervals more lines draws) (rounds more lines draws)
-unfolding rounds intervals
-listed zero lines draws h = without lines draws (omega arith)
-listed (suc more) lines draws h = go (way lines draws) (listed more (linesAfter lines draws) (drawsAfter lines draws))
+listed : (more : ℕ) (lines : List ℕ) (draws : ℕ) → 0 < draws → draws ≤ more → Rounds lines draws (intervals more lines draws) (rounds more lines draws)
+listed zero lines draws some h = absurd (omega arith)
+listed (suc more) lines draws some h = go (way lines draws) (listed more (linesAfter lines draws) (drawsAfter lines draws))
   where
     go : Way lines draws →
-        (drawsAfter lines draws ≤ more → Rounds (linesAfter lines draws) (drawsAfter lines draws) (intervals more (linesAfter lines draws) (drawsAfter lines draws)) (rounds more (linesAfter lines draws) (drawsAfter lines draws))) →
+        (0 < drawsAfter lines draws → drawsAfter lines draws ≤ more → Rounds (linesAfter lines draws) (drawsAfter lines draws) (intervals more (linesAfter lines draws) (drawsAfter lines draws)) (rounds more (linesAfter lines draws) (drawsAfter lines draws))) →
         Rounds lines draws (intervals (suc more) lines draws) (rounds (suc more) lines draws)
-    go (spent e) ih = rw (intervals-none more lines draws e, round-none more lines draws e) (without lines draws e)
-    go (done w e) ih = rw (intervals-done more lines draws w e, round-done more lines draws w e) (last {lines = lines} {draws = draws} (omega arith) e)
-    go (again w e) ih = rw (intervals-again more lines draws w e, round-again more lines draws w e) (next {lines = lines} {draws = draws} (omega arith) (omega arith) (ih (omega arith)))
+    go (done e) ih = rw (intervals-done more lines draws e, round-done more lines draws e) (last {lines = lines} {draws = draws} some e)
+    go (again e) ih =
+        let f = few lines draws some in
+        rw (intervals-again more lines draws e, round-again more lines draws e) (next {lines = lines} {draws = draws} some (omega arith) (ih (omega arith) (omega arith)))
 
--- of the split of a ledger
-pub rounds-listed : (ledger : List ℕ) (n : ℕ) → Rounds ledger n (intervals n ledger n) (splitLines ledger n)
-rounds-listed ledger n = listed n ledger n (omega arith)
+-- of the split of a ledger, with at least one draw
+pub rounds-listed : (ledger : List ℕ) (n : ℕ) → 0 < n → Rounds ledger n (intervals n ledger n) (splitLines ledger n)
+rounds-listed ledger n some = listed n ledger n some (omega arith)

@@ -35,46 +35,38 @@ module _ (l : List ℕ) (d : ℕ) (some : 0 < d) where
       let lt : sum (upTo j l) < suc j * (d - k) = omega (arith, whole, above-many j l, sum-parts j l, below-next, mul-comm (suc j) d, mul-comm (suc j) (d - k)) in
       omega (arith, div-lt-iff-lt-mul {k = d - k} {x = sum (upTo j l)} {y = suc j} pos .1 lt)
 
--- The three ways that a round can go.
+-- The two ways that a round can go.
 module _ (m : ℕ) (l : List ℕ) (d : ℕ) where
-  pub round-none : d ≡ 0 → rounds (suc m) l d ≡ record { interval = 0; draws = d; lines = l }
+  pub round-done : length (fullOf l d) ≡ 0 → rounds (suc m) l d ≡ record { interval = intervalOf l d; draws = d; lines = l }
   unfolding rounds
-  round-none e = simp (eq-eqb _ _ e)
+  round-done e = simp (eq-eqb _ _ e)
 
-  pub round-done : (d ≡ 0 → ⊥) → length (fullOf l d) ≡ 0 → rounds (suc m) l d ≡ record { interval = intervalOf l d; draws = d; lines = l }
+  pub round-again : (length (fullOf l d) ≡ 0 → ⊥) → rounds (suc m) l d ≡ rounds m (linesAfter l d) (drawsAfter l d)
   unfolding rounds
-  round-done w e = simp (ne-eqb _ _ w, eq-eqb _ _ e)
+  round-again e = simp (ne-eqb _ _ e)
 
-  pub round-again : (d ≡ 0 → ⊥) → (length (fullOf l d) ≡ 0 → ⊥) → rounds (suc m) l d ≡ rounds m (linesAfter l d) (drawsAfter l d)
-  unfolding rounds
-  round-again w e = simp (ne-eqb _ _ w, ne-eqb _ _ e)
-
--- which way a round goes, so that a proof has three cases
+-- which way a round goes, so that a proof has two cases
 pub data Way (l : List ℕ) (d : ℕ) : Type 0 where
-  spent : d ≡ 0 → Way l d
-  done : (d ≡ 0 → ⊥) → length (fullOf l d) ≡ 0 → Way l d
-  again : (d ≡ 0 → ⊥) → (length (fullOf l d) ≡ 0 → ⊥) → Way l d
+  done : length (fullOf l d) ≡ 0 → Way l d
+  again : (length (fullOf l d) ≡ 0 → ⊥) → Way l d
 
 zero? : (n : ℕ) → (n ≡ 0) ⊎ (n ≡ 0 → ⊥)
 zero? zero = inl refl
 zero? (suc n) = inr (λ e. omega arith)
 
 pub way : (l : List ℕ) (d : ℕ) → Way l d
-way l d = ⊎-elim spent (λ w. ⊎-elim (done w) (again w) (zero? (length (fullOf l d)))) (zero? d)
+way l d = ⊎-elim done again (zero? (length (fullOf l d)))
 
 -- As many rounds as draws are enough: more change nothing.
-pub enough : (m k : ℕ) (l : List ℕ) (d : ℕ) → d ≤ m → d ≤ k → rounds m l d ≡ rounds k l d
-unfolding rounds
-enough zero zero l d p q = refl
-enough zero (suc k) l d p q = sym (round-none k l d (omega arith))
-enough (suc m) zero l d p q = round-none m l d (omega arith)
-enough (suc m) (suc k) l d p q = go (way l d) (enough m k (linesAfter l d) (drawsAfter l d))
+pub enough : (m k : ℕ) (l : List ℕ) (d : ℕ) → 0 < d → d ≤ m → d ≤ k → rounds m l d ≡ rounds k l d
+enough zero k l d some p q = absurd (omega arith)
+enough (suc m) zero l d some p q = absurd (omega arith)
+enough (suc m) (suc k) l d some p q = go (way l d) (enough m k (linesAfter l d) (drawsAfter l d))
   where
-    go : Way l d → (drawsAfter l d ≤ m → drawsAfter l d ≤ k → rounds m (linesAfter l d) (drawsAfter l d) ≡ rounds k (linesAfter l d) (drawsAfter l d)) →
+    go : Way l d → (0 < drawsAfter l d → drawsAfter l d ≤ m → drawsAfter l d ≤ k → rounds m (linesAfter l d) (drawsAfter l d) ≡ rounds k (linesAfter l d) (drawsAfter l d)) →
         rounds (suc m) l d ≡ rounds (suc k) l d
-    go (spent e) ih = round-none m l d e ∙ sym (round-none k l d e)
-    go (done w e) ih = round-done m l d w e ∙ sym (round-done k l d w e)
-    go (again w e) ih = round-again m l d w e ∙ ih (omega arith) (omega arith) ∙ sym (round-again k l d w e)
+    go (done e) ih = round-done m l d e ∙ sym (round-done k l d e)
+    go (again e) ih = let f = few l d some in round-again m l d e ∙ ih (omega arith) (omega arith) (omega arith) ∙ sym (round-again k l d e)
 
 -- What holds where the rounds end, from the lines l and at least one draw.
 pub record Settled (l : List ℕ) (d : ℕ) (r : Rest) : Type 0 where
@@ -94,16 +86,15 @@ settles (suc m) l d p q = go (way l d) (settles m (linesAfter l d) (drawsAfter l
   where
     go : Way l d → (0 < drawsAfter l d → drawsAfter l d ≤ m → Settled (linesAfter l d) (drawsAfter l d) (rounds m (linesAfter l d) (drawsAfter l d))) →
         Settled l d (rounds (suc m) l d)
-    go (spent e) ih = absurd (omega arith)
-    go (done w e) ih =
-        rw (round-done m l d w e)
+    go (done e) ih =
+        rw (round-done m l d e)
         (record { rest = sym (none-above (intervalOf l d) l e); used = omega arith; left = p; final = refl; none = e; small = omega arith })
-    go (again w e) ih =
+    go (again e) ih =
         let f = few l d p in
         let h = ih (omega arith) (omega arith) in
         let j = rounds m (linesAfter l d) (drawsAfter l d) .interval in
         let small : j ≤ intervalOf l d = omega (arith, falls l d p) in
-        rw (round-again m l d w e)
+        rw (round-again m l d e)
         (record {
           rest = h .rest ∙ upTo-upTo j (intervalOf l d) l small;
           used = omega (arith, above-upTo j (intervalOf l d) l small);

@@ -1,5 +1,5 @@
 -- The recursion by a bound on the whole ledger, against the rounds on the lines that remain: these are the lines not above the bound. Assumes nothing.
-use mathlib.Core.Path.{_≡_, refl, sym, ap, ap₂, _∙_}
+use mathlib.Core.Path.{_≡_, sym, ap, ap₂, _∙_}
 use mathlib.Core.List.{List}
 use mathlib.Core.Logic.{⊎-elim}
 use Prim.Native.Nat.{ℕ, zero, suc, _-_, _/_, _≤_, _<_}
@@ -7,29 +7,27 @@ use native.Mathlib.Omega.{arith}
 use lib.ListN.{length}
 use Rattle.terms.specs.Numbers.{sum}
 use Rattle.terms.proofs.Tests.{le-or-lt}
-use Rattle.split.specs.Rounds.{above, upTo, fullOf, linesAfter, drawsAfter, intervalOf, rounds, splitLines}
+use Rattle.split.specs.Rounds.{above, upTo, fullOf, linesAfter, drawsAfter, intervalOf, splitLines}
 use Rattle.split.specs.Split.{sampled}
 use Rattle.split.specs.declared.Sampled.{Sampled}
 use Rattle.split.proofs.Lines.{sum-parts, upTo-upTo, above-nothing}
 use Rattle.split.proofs.Laws.{few, enough, round-done, round-again}
 
 -- the rounds at their first round
-split-done : (l : List ℕ) (d : ℕ) → (d ≡ 0 → ⊥) → length (fullOf l d) ≡ 0 → splitLines l d ≡ record { interval = intervalOf l d; draws = d; lines = l }
-split-done l zero w e = absurd (w refl)
-split-done l (suc d) w e = round-done d l (suc d) w e
+split-done : (l : List ℕ) (d : ℕ) → 0 < d → length (fullOf l d) ≡ 0 → splitLines l d ≡ record { interval = intervalOf l d; draws = d; lines = l }
+split-done l zero some e = absurd (omega arith)
+split-done l (suc d) some e = round-done d l (suc d) e
 
-split-again : (l : List ℕ) (d : ℕ) → (d ≡ 0 → ⊥) → (length (fullOf l d) ≡ 0 → ⊥) → splitLines l d ≡ splitLines (linesAfter l d) (drawsAfter l d)
-split-again l zero w f = absurd (w refl)
-split-again l (suc d) w f = round-again d l (suc d) w f ∙ enough d (drawsAfter l (suc d)) (linesAfter l (suc d)) (drawsAfter l (suc d)) (omega arith) (omega arith)
+split-again : (l : List ℕ) (d : ℕ) → 0 < d → (length (fullOf l d) ≡ 0 → ⊥) → splitLines l d ≡ splitLines (linesAfter l d) (drawsAfter l d)
+split-again l zero some f = absurd (omega arith)
+split-again l (suc d) some f =
+    let w = few l (suc d) some in
+    round-again d l (suc d) f ∙ enough d (drawsAfter l (suc d)) (linesAfter l (suc d)) (drawsAfter l (suc d)) (omega arith) (omega arith) (omega arith)
 
--- t is the total of the lines not above the bound b, with d draws
+-- t is the total of the lines not above the bound b, with d draws, at least one
 module _ (ledger : List ℕ) (b t d : ℕ) (total : t ≡ sum (upTo b ledger)) where
-  pub rest-spent : d ≡ 0 → record { interval = 0; «draws_left» = d; total = t } ≡ sampled (splitLines (upTo b ledger) d)
-  unfolding rounds
-  rest-spent e = rw e (λ i. record { interval = 0; «draws_left» = 0; total = total i })
-
-  -- with a draw, where k lines are above the interval
-  module _ (k : ℕ) (some : d ≡ 0 → ⊥) (many : k ≡ length (above (t / d) (upTo b ledger))) where
+  -- where k lines are above the interval
+  module _ (k : ℕ) (some : 0 < d) (many : k ≡ length (above (t / d) (upTo b ledger))) where
     many-full : k ≡ length (fullOf (upTo b ledger) d)
     many-full = rw total at many
 
@@ -37,13 +35,14 @@ module _ (ledger : List ℕ) (b t d : ℕ) (total : t ≡ sum (upTo b ledger)) w
     rest-done e = rw (split-done (upTo b ledger) d some (sym many-full ∙ e)) (λ i. record { interval = total i / d; «draws_left» = d; total = total i })
 
     fewer : k < d
-    fewer = let w = some in omega (arith, many-full, few (upTo b ledger) d (omega arith))
+    fewer = omega (arith, many-full, few (upTo b ledger) d some)
 
     pub rest-few : k ≤ d
     rest-few = let f = fewer in omega arith
 
-    pub rest-falls : (m : ℕ) → d ≡ m → (k ≡ 0 → ⊥) → d - k < m
-    rest-falls m e f = let w = fewer in omega arith
+    -- a draw is left
+    pub rest-left : 0 < d - k
+    rest-left = let w = fewer in omega arith
 
     -- a line is above the interval, so the interval is below the bound, and parting by it alone is enough
     again-lines : (k ≡ 0 → ⊥) → upTo (t / d) (upTo b ledger) ≡ upTo (t / d) ledger

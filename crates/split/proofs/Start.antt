@@ -31,7 +31,7 @@ pub from-total : (ledger : List ℕ) (n start beside total : ℕ) → accepted t
 unfolding figuresAt
 from-total ledger n start beside total e = from-split ledger n start beside (from-ledger ledger n beside e)
 
--- as `figures_at` and `figures_for` meet it
+-- as `figures_at` meets it
 module _ (ledger : List ℕ) (n start : ℕ) {r : SplitAnswer} where
   pub at-refused : {why : Refusal} → r ≡ Refused why → splitSays r ≡ figuresFrom ledger n → refusedBy why ≡ figuresAt ledger n start
   unfolding figuresAt
@@ -40,13 +40,6 @@ module _ (ledger : List ℕ) (n start : ℕ) {r : SplitAnswer} where
   pub at-start : {f : Figures} {o : Outcome Figures} → r ≡ Split f → splitSays r ≡ figuresFrom ledger n → o ≡ startIn start f → o ≡ figuresAt ledger n start
   unfolding figuresAt
   at-start is e s = s ∙ ap (after (startIn start)) (sym (ap splitSays is) ∙ e)
-
-module _ {ledger : List ℕ} {n start : ℕ} {r : SplitAnswer} where
-  pub for-refused : {beside : ℕ} {why : Refusal} → r ≡ Refused why → FiguresPromise ledger n beside r → FiguresForPromise ledger n start beside (Refused why)
-  for-refused is p = record { answer = from-split ledger n start _ (sym (ap splitSays is) ∙ p .answer) }
-
-  pub for-start : {beside : ℕ} {f : Figures} {a : SplitAnswer} → r ≡ Split f → FiguresPromise ledger n beside r → splitSays a ≡ startIn start f → FiguresForPromise ledger n start beside a
-  for-start is p s = record { answer = s ∙ from-split ledger n start _ (sym (ap splitSays is) ∙ p .answer) }
 
 -- where the start stands to the interval
 module _ (start : ℕ) (f : Figures) where
@@ -92,6 +85,18 @@ start-facts ledger n start beside f e =
       early = fits-early (f .interval) start (ap (λ (g : Figures). startFits start (g .interval)) (sym same) ∙ p);
     })
     (λ p h. never h) (a .2)
+
+-- as `figures_for` meets it: the split keeps a draw, whatever the start
+for-promised : {ledger : List ℕ} {n start beside : ℕ} {r : SplitAnswer} → splitSays r ≡ figuresFor ledger n start beside → FiguresForPromise ledger n start beside r
+for-promised {ledger} {n} {start} {beside} e =
+    record { answer = e; draw-kept = λ f h. omega (arith, start-facts ledger n start beside f (sym e ∙ h) .facts .a-draw) }
+
+module _ {ledger : List ℕ} {n start : ℕ} {r : SplitAnswer} where
+  pub for-refused : {beside : ℕ} {why : Refusal} → r ≡ Refused why → FiguresPromise ledger n beside r → FiguresForPromise ledger n start beside (Refused why)
+  for-refused is p = for-promised (from-split ledger n start _ (sym (ap splitSays is) ∙ p .answer))
+
+  pub for-start : {beside : ℕ} {f : Figures} {a : SplitAnswer} → r ≡ Split f → FiguresPromise ledger n beside r → splitSays a ≡ startIn start f → FiguresForPromise ledger n start beside a
+  for-start is p s = for-promised (s ∙ from-split ledger n start _ (sym (ap splitSays is) ∙ p .answer))
 
 -- a start below the interval is accepted, and so is 0 where there is none
 pub start-accepted : (ledger : List ℕ) (n start beside : ℕ) (f : Figures) → splitOf ledger n beside ≡ accepted f → start < f .interval → figuresFor ledger n start beside ≡ accepted f

@@ -7,8 +7,6 @@ use Rattle.split.specs.Rounds.{intervalOf, fullOf, linesAfter, drawsAfte
 
 -- from these lines and draws, rounds of these intervals lead to this rest
 pub data Rounds : List ℕ → ℕ → List ℕ → Rest → Type 0 where
-  -- without a draw there is no round
-  no-draw : {lines : List ℕ} → Rounds lines 0 [] (record { interval = 0; draws = 0; lines = lines })
   -- a round above whose interval no line is, is the last
   last : {lines : List ℕ} {draws : ℕ} → 0 < draws → length (fullOf lines draws) ≡ 0 →
       Rounds lines draws (intervalOf lines draws ∷ []) (record { interval = intervalOf lines draws; draws = draws; lines = lines })

@@ -39,14 +39,14 @@ pub record Rest : Type 0 where
   pub draws : ℕ
   pub lines : List ℕ
 
--- The split is made again on the lines that remain, until no line is above J. Without a draw there is no interval. A round that is
--- followed by another uses a draw, so as many rounds as there are draws are enough (`enough` of proofs/Laws.antt).
+-- The split is made again on the lines that remain, until no line is above J. A round that is followed by another uses a draw and leaves
+-- one (`few` of proofs/Laws.antt), so as many rounds as there are draws are enough (`enough`). The first equation is there because a
+-- definition has to be total: a split with draws never comes to it.
 unfoldable pub rounds : ℕ → List ℕ → ℕ → Rest
 rounds zero lines draws = record { interval = 0; draws = draws; lines = lines }
 rounds (suc more) lines draws =
     let again = rounds more (linesAfter lines draws) (drawsAfter lines draws) in
-    pick (eqb draws 0) (record { interval = 0; draws = draws; lines = lines })
-    (pick (eqb (length (fullOf lines draws)) 0) (record { interval = intervalOf lines draws; draws = draws; lines = lines }) again)
+    pick (eqb (length (fullOf lines draws)) 0) (record { interval = intervalOf lines draws; draws = draws; lines = lines }) again
 
 abbrev pub splitLines : List ℕ → ℕ → Rest
 splitLines lines draws = rounds draws lines draws
@@ -56,7 +56,7 @@ unfoldable pub intervals : ℕ → List ℕ → ℕ → List ℕ
 intervals zero lines draws = []
 intervals (suc more) lines draws =
     let again = intervals more (linesAfter lines draws) (drawsAfter lines draws) in
-    pick (eqb draws 0) [] (intervalOf lines draws ∷ pick (eqb (length (fullOf lines draws)) 0) [] again)
+    intervalOf lines draws ∷ pick (eqb (length (fullOf lines draws)) 0) [] again
 
 -- a line becomes full where it exceeds the interval of a round
 abbrev pub becomesFull : List ℕ → ℕ → Bool

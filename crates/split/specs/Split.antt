@@ -2,7 +2,6 @@
 use Prim.Native.Nat.{ℕ, _≤_}
 use mathlib.Core.Path.{_≡_}
 use mathlib.Core.List.{List, map}
-use mathlib.Core.Bool.{Bool, false}
 use lib.ListN.{length}
 use lib.Dec.{ltb, eqb}
 use Rattle.terms.specs.Outcome.{Outcome, accepted, refused, refusedBy, after, left}
@@ -41,17 +40,9 @@ figuresOf ledger r =
 abbrev pub withinMost : Figures → Outcome Figures
 withinMost figures = pick (ltb mostInterval (figures .interval)) (refused 10 0) (accepted figures)
 
--- lines with value and no draws
-abbrev pub usedUp : Figures → Bool
-usedUp figures = pick (eqb (figures .«draws_left») 0) (ltb 0 (figures .«sampled_total»)) false
-
--- 9 where the rounds leave lines with value and no draws
-abbrev pub settledOf : Figures → Outcome Figures
-settledOf figures = pick (usedUp figures) (refused 9 0) (withinMost figures)
-
 -- 8 where there are no draws
 unfoldable pub figuresFrom : List ℕ → ℕ → Outcome Figures
-figuresFrom ledger n = pick (eqb n 0) (refused 8 0) (settledOf (figuresOf ledger (splitLines ledger n)))
+figuresFrom ledger n = pick (eqb n 0) (refused 8 0) (withinMost (figuresOf ledger (splitLines ledger n)))
 
 -- after the refusals of the ledger; `beside` is the length of the buffer that is lent with it
 unfoldable pub splitOf : List ℕ → ℕ → ℕ → Outcome Figures
@@ -67,11 +58,17 @@ fullMarks J ledger = map (fullMark J) ledger
 abbrev pub marksOf : List ℕ → Figures → List ℕ
 marksOf ledger figures = fullMarks (figures .interval) ledger
 
--- what `split_figures` promises: the answer
+-- the split keeps a draw: on every accepted split at least one is left
+abbrev pub KeepsDraw : Outcome Figures → Type 0
+KeepsDraw o = (figures : Figures) → o ≡ accepted figures → 1 ≤ figures .«draws_left»
+
+-- what `split_figures` promises: the answer, and that a draw is left
 pub record FiguresPromise (ledger : List ℕ) (n beside : ℕ) (r : SplitAnswer) : Type 0 where
   pub answer : splitSays r ≡ splitOf ledger n beside
+  pub draw-kept : KeepsDraw (splitSays r)
 
--- what `split` promises: the answer, and the marks, which a refusal leaves
+-- what `split` promises: the answer, that a draw is left, and the marks, which a refusal leaves
 pub record SplitPromise (ledger : List ℕ) (n : ℕ) (marks : List ℕ) (r : SplitAnswer) (marks′ : List ℕ) : Type 0 where
   pub answer : splitSays r ≡ splitOf ledger n (length marks)
+  pub draw-kept : KeepsDraw (splitSays r)
   pub marks-left : marks′ ≡ left (marksOf ledger) marks (splitOf ledger n (length marks))

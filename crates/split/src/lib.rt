@@ -7,7 +7,7 @@ ghost use Prim.Native.Nat.{_<_, _^_};
 ghost use lib.ListN.{length};
 ghost use Rattle.terms.specs.Numbers.{sum};
 ghost use Rattle.split.specs.Rounds.{above, upTo, splitLines};
-ghost use Rattle.split.specs.Split.{Totalled, splitSays, sampled, figuresOf, withinMost, settledOf, figuresFrom, fullMarks, FiguresPromise, SplitPromise};
+ghost use Rattle.split.specs.Split.{Totalled, splitSays, sampled, figuresOf, withinMost, figuresFrom, fullMarks, FiguresPromise, SplitPromise};
 ghost use Rattle.split.specs.Start.{startIn, figuresAt, FiguresForPromise};
 
 // The final interval and what it leaves: the draws, the sampled lines' total, the full lines and their total.
@@ -60,18 +60,11 @@ fn between(ledger: &[u64], low: u64, high: u64) -> Part
 }
 
 // The split of the lines that are not above `bound`, whose total is `total`. The interval never grows, so the lines that remain
-// after a round are those not above it: the split is made again on them, with fewer draws left.
+// after a round are those not above it: the split is made again on them, with fewer draws left, and always with one.
 fn split_rest(ledger: &[u64], bound: u64, total: u64, draws: u64) -> Sampled
-    requires { ⌜ (sum (now ledger) < 2 ^ 64) × (total ≡ sum (upTo bound (now ledger))) ⌝ }
+    requires { ⌜ (sum (now ledger) < 2 ^ 64) × (total ≡ sum (upTo bound (now ledger))) × (0 < draws) ⌝ }
     ensures { λ r. ⌜ r ≡ sampled (splitLines (upTo bound (now (ledger .entry))) draws) ⌝ }
 {
-    if draws == 0 {
-        return Sampled {
-            interval: 0,
-            draws_left: draws,
-            total,
-        };
-    }
     let interval = total / draws;
     let full = between(ledger, interval, bound);
     if full.lines == 0 {
@@ -113,20 +106,7 @@ fn within_most(figures: Figures) -> SplitAnswer
     SplitAnswer::Split(figures)
 }
 
-// The figures, or 9 where they leave lines with value and no draws, or 10.
-fn settled(figures: Figures) -> SplitAnswer
-    ensures { λ r. ⌜ splitSays r ≡ settledOf figures ⌝ }
-{
-    if figures.draws_left != 0 {
-        return within_most(figures);
-    }
-    if figures.sampled_total > 0 {
-        return SplitAnswer::Refused(Refusal::DrawsUsedUp);
-    }
-    within_most(figures)
-}
-
-// The split of a ledger whose judgement gave this total: 8, 9, 10, or the figures.
+// The split of a ledger whose judgement gave this total: 8, 10, or the figures.
 pub fn split_total(ledger: &[u64], n: u64, total: u64) -> SplitAnswer
     requires { ⌜ Totalled (now ledger) total ⌝ }
     ensures { λ r. ⌜ splitSays r ≡ figuresFrom (now (ledger .entry)) n ⌝ }
@@ -135,7 +115,7 @@ pub fn split_total(ledger: &[u64], n: u64, total: u64) -> SplitAnswer
         return SplitAnswer::Refused(Refusal::NoDraws);
     }
     let figures = figures_of(ledger, n, total);
-    settled(figures)
+    within_most(figures)
 }
 
 // The split without marks: what every step over a split ledger starts from. `beside` is the length of the buffer that is lent
@@ -187,7 +167,7 @@ pub fn start_in(start: Cent, figures: Figures) -> SplitAnswer
     SplitAnswer::Split(figures)
 }
 
-// The figures for a start, from a ledger whose judgement gave this total: 8, 9, 10, 11.
+// The figures for a start, from a ledger whose judgement gave this total: 8, 10, 11.
 pub fn figures_at(ledger: &[u64], n: u64, start: Cent, total: u64) -> SplitAnswer
     requires { ⌜ Totalled (now ledger) total ⌝ }
     ensures { λ r. ⌜ splitSays r ≡ figuresAt (now (ledger .entry)) n (start .0) ⌝ }

@@ -1,6 +1,6 @@
--- Where all steps accept, the interval is within its maximum and no error exceeds its line's value. Assumes nothing.
-use Prim.Native.Nat.{ℕ}
-use mathlib.Core.Path.{_≡_, sym}
+-- Where all steps accept, the interval is within its maximum, a draw is left and no error exceeds its line's value. Assumes nothing.
+use Prim.Native.Nat.{ℕ, _≤_}
+use mathlib.Core.Path.{_≡_, sym, _∙_}
 use mathlib.Core.List.{List}
 use lib.ListN.{length}
 use Rattle.terms.specs.Outcome.{accepted}
@@ -17,10 +17,12 @@ use Rattle.judge.proofs.Laws.{judge-facts}
 use Rattle.workfile.specs.declared.Plan.{Plan}
 use Rattle.steps.specs.declared.Planned.{Planned}
 use Rattle.steps.specs.declared.Answers.{Answers}
-use Rattle.steps.specs.Steps.{plannedWith, answersWith, judgedFrom, startedFrom, splitFrom, sizedFrom, totalledFrom, stepsOf, Shown}
+use Rattle.steps.specs.declared.StepsAnswer.{StepsAnswer}
+use Rattle.steps.specs.Steps.{plannedWith, answersWith, judgedFrom, startedFrom, splitFrom, sizedFrom, totalledFrom, stepsOf, stepsSays, StepsPromise, Shown}
 
 -- from the split on
-split-shown : (p : Planned) (words ledger errors : List ℕ) (a : Answers) → splitFrom p words ledger errors ≡ accepted a → Shown (a .figures .interval) ledger errors
+split-shown : (p : Planned) (words ledger errors : List ℕ) (a : Answers) → splitFrom p words ledger errors ≡ accepted a →
+    Shown (a .figures .interval) ledger errors × (1 ≤ a .figures .«draws_left»)
 unfolding splitFrom startedFrom judgedFrom
 split-shown p words ledger errors a e =
     let b = after-accepted (startedFrom p words ledger errors) (splitOf ledger (p .draws) (length errors)) a e in
@@ -30,19 +32,28 @@ split-shown p words ledger errors a e =
     let s = d .0 in
     let g = after-accepted (λ judgement. accepted (answersWith p f s judgement)) (judgeOf (p .level) ledger (p .draws) (s .start) errors (p .te)) a (d .2) in
     let same : f ≡ a .figures = let w : accepted (answersWith p f s (g .0)) ≡ accepted a = g .2 in cc in
-    record {
+    let shown : Shown (a .figures .interval) ledger errors = record {
       narrow = rw (← same) (facts .most);
       few = facts .ledger-good .few;
       summed = facts .ledger-good .most;
       same = facts .ledger-good .same;
       within = judge-facts (p .level) ledger (p .draws) (s .start) errors (p .te) (g .0) (g .1) .errors-within;
-    }
+    } in
+    (shown, rw (← same) (facts .a-draw))
 
 -- from the level on
-pub steps-shown : (plan : Plan) (words ledger errors : List ℕ) (a : Answers) → accepted a ≡ stepsOf plan words ledger errors → Shown (a .figures .interval) ledger errors
+steps-accepted : (plan : Plan) (words ledger errors : List ℕ) (a : Answers) → accepted a ≡ stepsOf plan words ledger errors →
+    Shown (a .figures .interval) ledger errors × (1 ≤ a .figures .«draws_left»)
 unfolding stepsOf totalledFrom sizedFrom
-steps-shown plan words ledger errors a e =
+steps-accepted plan words ledger errors a e =
     let b = after-accepted (λ level. totalledFrom plan words ledger errors) (levelOf (plan .level)) a (sym e) in
     let d = after-accepted (sizedFrom plan words ledger errors) (ledgerOf ledger (length errors)) a (b .2) in
     let g = after-accepted (λ draws. splitFrom (plannedWith plan (d .0) draws) words ledger errors) (sizeOf (plan .level) (d .0) (plan .te) (plan .ae)) a (d .2) in
     split-shown (plannedWith plan (d .0) (g .0)) words ledger errors a (g .2)
+
+pub steps-shown : (plan : Plan) (words ledger errors : List ℕ) (a : Answers) → accepted a ≡ stepsOf plan words ledger errors → Shown (a .figures .interval) ledger errors
+steps-shown plan words ledger errors a e = steps-accepted plan words ledger errors a e .0
+
+-- as `steps` meets it
+pub steps-promised : {plan : Plan} {words ledger errors : List ℕ} {r : StepsAnswer} → stepsSays r ≡ stepsOf plan words ledger errors → StepsPromise plan words ledger errors r
+steps-promised {plan} {words} {ledger} {errors} e = record { answer = e; draw-kept = λ a h. steps-accepted plan words ledger errors a (sym h ∙ e) .1 }

@@ -48,7 +48,7 @@ gives-then : {A B : Type 0} (numbers : List ℕ) (next : A → Outcome B) (o : O
 gives-then numbers next (accepted a) g h = h a refl
 gives-then numbers next (refused n p) g h = g
 
--- the refusals that the steps give on a legal file: 2, 8, 9, 11 and 13 are not among them
+-- the refusals that the steps give on a legal file: 2, 8, 11 and 13 are not among them
 abbrev pub stepsNumbers : List ℕ
 stepsNumbers = 1 ∷ 3 ∷ 4 ∷ 5 ∷ 6 ∷ 7 ∷ 10 ∷ 12 ∷ 14 ∷ 15 ∷ 16 ∷ []
 

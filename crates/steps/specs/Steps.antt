@@ -40,7 +40,7 @@ judgedFrom planned ledger errors figures chosen =
 unfoldable pub startedFrom : Planned → List ℕ → List ℕ → List ℕ → Figures → Outcome Answers
 startedFrom planned words ledger errors figures = after (judgedFrom planned ledger errors figures) (startOf (figures .interval) words)
 
--- the split: 8, 9, 10
+-- the split: 8, 10
 unfoldable pub splitFrom : Planned → List ℕ → List ℕ → List ℕ → Outcome Answers
 splitFrom planned words ledger errors = after (startedFrom planned words ledger errors) (splitOf ledger (planned .draws) (length errors))
 
@@ -57,9 +57,10 @@ totalledFrom plan words ledger errors = after (sizedFrom plan words ledger error
 unfoldable pub stepsOf : Plan → List ℕ → List ℕ → List ℕ → Outcome Answers
 stepsOf plan words ledger errors = after (λ level. totalledFrom plan words ledger errors) (levelOf (plan .level))
 
--- what `steps` promises: the answer
+-- what `steps` promises: the answer, and that its split has kept a draw
 pub record StepsPromise (plan : Plan) (words ledger errors : List ℕ) (r : StepsAnswer) : Type 0 where
   pub answer : stepsSays r ≡ stepsOf plan words ledger errors
+  pub draw-kept : (answers : Answers) → stepsSays r ≡ accepted answers → 1 ≤ answers .figures .«draws_left»
 
 -- what steps that accept have shown of the interval and the lines
 pub record Shown (J : ℕ) (ledger errors : List ℕ) : Type 0 where

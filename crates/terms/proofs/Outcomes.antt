@@ -1,5 +1,5 @@
 -- Outcomes: an accepted call is no refused one, what a step that starts with another was accepted from, which refusals it gives,
--- and that a number and a place name one refusal. Assumes nothing.
+-- that a number and a place name one refusal, and that none has 0 or 9. Assumes nothing.
 use mathlib.Core.Path.{_≡_, refl, sym, ap, subst, _∙_}
 use mathlib.Core.List.{List, [], _∷_}
 use mathlib.Core.Bool.{Bool, true, false}
@@ -63,7 +63,7 @@ gives-among numbers more a (refused k p) g = among-all k numbers more a g
 listed : ℕ → List Refusal
 listed p =
     Refusal.NoLegalFile ∷ Refusal.UnknownLevel ∷ Refusal.TooManyLines ∷ Refusal.ValueTooLarge p ∷ Refusal.TotalTooLarge p ∷
-    Refusal.TotalZero ∷ Refusal.ToleranceOutOfRange ∷ Refusal.ToleranceSpent ∷ Refusal.NoDraws ∷ Refusal.DrawsUsedUp ∷
+    Refusal.TotalZero ∷ Refusal.ToleranceOutOfRange ∷ Refusal.ToleranceSpent ∷ Refusal.NoDraws ∷ Refusal.NoLegalFile ∷
     Refusal.IntervalTooLarge ∷ Refusal.StartOutOfRange ∷ Refusal.NoWordPasses p ∷ Refusal.LengthsDiffer ∷ Refusal.ErrorAboveValue p ∷
     Refusal.ErrorNotDrawn p ∷ Refusal.TooManyErrors ∷ Refusal.FileBreaksRule p ∷ Refusal.RoomTooShort p ∷ Refusal.NoLegalFile ∷ []
 
@@ -83,7 +83,6 @@ found Refusal.TotalZero = refl
 found Refusal.ToleranceOutOfRange = refl
 found Refusal.ToleranceSpent = refl
 found Refusal.NoDraws = refl
-found Refusal.DrawsUsedUp = refl
 found Refusal.IntervalTooLarge = refl
 found Refusal.StartOutOfRange = refl
 found (Refusal.NoWordPasses words) = refl
@@ -107,6 +106,13 @@ number-some why = go (number why) refl (found why)
     go : (n : ℕ) → number why ≡ n → entry (listed (place why)) n ≡ why → 0 < n
     go zero z e = absurd (omega (arith, ap number e))
     go (suc n) z e = omega arith
+
+-- nor has any 9: it is retired
+pub nine-retired : (why : Refusal) → number why ≡ 9 → ⊥
+unfolding entry listed
+nine-retired why nine =
+    let e : Refusal.NoLegalFile ≡ why = ap (entry (listed (place why))) (sym nine) ∙ found why in
+    omega (arith, ap number e)
 
 pub refused-once : {A : Type 0} (r s : Refusal) → refusedBy {A = A} r ≡ refusedBy s → r ≡ s
 refused-once r s e =

@@ -1,4 +1,4 @@
--- The number and the place of each refusal, as document 01's table has them. Definitions: nothing is assumed.
+-- The number and the place of each refusal, as document 01's table has them; 9 is retired. Definitions: nothing is assumed.
 use Prim.Native.Nat.{ℕ}
 use Rattle.terms.specs.declared.{Refusal.Refusal, Told.Told}
 
@@ -16,7 +16,6 @@ tells Refusal.TotalZero = row 5 0
 tells Refusal.ToleranceOutOfRange = row 6 0
 tells Refusal.ToleranceSpent = row 7 0
 tells Refusal.NoDraws = row 8 0
-tells Refusal.DrawsUsedUp = row 9 0
 tells Refusal.IntervalTooLarge = row 10 0
 tells Refusal.StartOutOfRange = row 11 0
 tells (Refusal.NoWordPasses words) = row 12 words

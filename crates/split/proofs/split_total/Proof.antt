@@ -1,4 +1,4 @@
--- `split::split_total` meets its contract: 8, or what the figures settle to. Assumes nothing.
+-- `split::split_total` meets its contract: 8, or what the figures come to. Assumes nothing.
 use native.Mathlib.Omega.{arith}
 use borrow.Author.Needs.{needs}
 use Rattle.split.proofs.Answer.{no-draws, with-draws}

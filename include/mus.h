@@ -23,7 +23,7 @@ extern "C" {
 #define MUS_MOST_LINES UINT64_C(1000000)
 #define MUS_MOST_VALUE UINT64_C(10000000000000)
 #define MUS_MOST_TOTAL UINT64_C(1000000000000000)
-#define MUS_MOST_INTERVAL UINT64_C(4000000000)
+#define MUS_MOST_INTERVAL UINT64_C(1000000000000000)
 #define MUS_MOST_ERRORS UINT64_C(63)
 
 /* A working file: its largest counts, which are also the reader's least rooms, and the length of the longest legal one. */
@@ -46,7 +46,7 @@ enum mus_refusal {
     MUS_TOLERANCE_SPENT = 7,        /* 100 x TE is at most AE x EF */
     MUS_NO_DRAWS = 8,               /* the number of draws is 0 */
     /* 9 is retired: every split leaves at least one draw */
-    MUS_INTERVAL_TOO_LARGE = 10,    /* an interval above MUS_MOST_INTERVAL */
+    MUS_INTERVAL_TOO_LARGE = 10,    /* an interval handed in is above MUS_MOST_INTERVAL: mus_start alone */
     MUS_START_OUT_OF_RANGE = 11,    /* the start is not below the interval, or not 0 where there is none */
     MUS_NO_WORD_PASSES = 12,        /* no random word passes; the number of words lent */
     MUS_LENGTHS_DIFFER = 13,        /* marks or errors differ from the ledger in length */
@@ -71,7 +71,7 @@ struct mus_size_result {
 
 struct mus_split_result {
     uint64_t refusal, place;
-    uint64_t interval;      /* the final interval J; 0 where nothing is sampled */
+    uint64_t interval;      /* the final interval J, at most the total; 0 where nothing is sampled */
     uint64_t draws_left;    /* the draws that the full lines leave: at least 1 */
     uint64_t sampled_total; /* the total of the lines that are not full */
     uint64_t full_lines;    /* the number of full lines */
@@ -125,7 +125,7 @@ struct mus_sheet_result {
 struct mus_size_result mus_size(uint8_t level, uint64_t total, uint64_t te, uint64_t ae);
 
 /* The split of a ledger for n draws into full lines, above the final interval, and the others. Writes a mark for each line, MUS_FULL
- * or MUS_NOT_DRAWN. Refusals 2, 13, 3, 4, 5, 8, 10. */
+ * or MUS_NOT_DRAWN. Refusals 2, 13, 3, 4, 5, 8. */
 struct mus_split_result mus_split(const uint64_t *ledger, size_t ledger_length, uint64_t n, uint8_t *marks, size_t marks_length);
 
 /* The random start below an interval: the low bits of the first random word that gives a value below it. An interval of 0 or 1
@@ -133,15 +133,15 @@ struct mus_split_result mus_split(const uint64_t *ledger, size_t ledger_length, 
 struct mus_start_result mus_start(uint64_t interval, const uint64_t *words, size_t words_length);
 
 /* The draw of a ledger for n draws from a start. Writes a mark for each line, MUS_NOT_DRAWN, MUS_DRAWN or MUS_FULL. Refusals
- * 2, 13, 3, 4, 5, 8, 10, 11. */
+ * 2, 13, 3, 4, 5, 8, 11. */
 struct mus_draw_result mus_draw(const uint64_t *ledger, size_t ledger_length, uint64_t n, uint64_t start, uint8_t *marks, size_t marks_length);
 
 /* The projection of the errors that were found: an entry for each line, 0 where there is none. A full line counts with its error, a
- * drawn line with error x interval / value, rounded up. Refusals 2, 13, 3, 4, 5, 8, 10, 11, 14, 15. */
+ * drawn line with error x interval / value, rounded up. Refusals 2, 13, 3, 4, 5, 8, 11, 14, 15. */
 struct mus_project_result mus_project(const uint64_t *ledger, size_t ledger_length, uint64_t n, uint64_t start, const uint64_t *errors, size_t errors_length);
 
 /* The judgement: the projection with its precision at a level, its upper limit, and the verdict against the tolerable error TE.
- * Refusals 1, 2, 13, 3, 4, 5, 6, 8, 10, 11, 14, 15, 16. */
+ * Refusals 1, 2, 13, 3, 4, 5, 6, 8, 11, 14, 15, 16. */
 struct mus_judge_result mus_judge(uint8_t level, const uint64_t *ledger, size_t ledger_length, uint64_t n, uint64_t start, const uint64_t *errors, size_t errors_length, uint64_t te);
 
 /* Reads a working file. words has room for at least MUS_MOST_WORDS entries, values and errors for at least MUS_MOST_FILE_LINES; entries

@@ -20,7 +20,7 @@ from typing import NamedTuple
 MOST_LINES = 1_000_000
 MOST_VALUE = 10**13
 MOST_TOTAL = 10**15
-MOST_INTERVAL = 4_000_000_000
+MOST_INTERVAL = 10**15
 MOST_ERRORS = 63
 
 # Sizes of the working file.
@@ -247,8 +247,6 @@ def finished_split(ledger, n):
         raise Refused(8, 0)
     rounds = split_rounds(ledger, n)
     interval = rounds.intervals[-1]
-    if interval > MOST_INTERVAL:
-        raise Refused(10, 0)
     sampled_total = sum(ledger[line] for line in rounds.sampled)
     full_total = sum(ledger[line] for line in rounds.full)
     return Split(interval, rounds.draws_left, sampled_total, len(rounds.full), full_total), rounds

@@ -90,8 +90,10 @@ def practice_judgement():
 
 
 def practice_limits():
-    same("widest J", split([MOST_INTERVAL], 1, [9]).interval, MOST_INTERVAL)
-    same("one cent more", split([MOST_INTERVAL + 1], 1, [9]), Refusal(10, 0))
+    same("J above the base's maximum", split([4_000_000_001], 1, [9]).interval, 4_000_000_001)
+    same("widest J", split([10**13] * 100, 1, [9] * 100).interval, MOST_INTERVAL)
+    same("amount of 93 bits", project([10**13] * 100, 1, 0, [10**13 - 1] + [0] * 99), Projection(0, 10**15 - 100, 1))
+    same("amount rounded up", project([10**13] * 99 + [10**13 - 1], 1, 0, [1] + [0] * 99), Projection(0, 100, 1))
     same("widest J handed in", start(MOST_INTERVAL, [0]), Start(0, 1))
     same("one cent more handed in", start(MOST_INTERVAL + 1, [0]), Refusal(10, 0))
     for m, judged in (63, True), (64, False):

@@ -1,5 +1,7 @@
 """The cases: legal ones, each refusal, and the edge values of every limit. A new case stands last, so that no number moves."""
 
+import math
+
 import reference
 import self_test
 from reference import EF, MOST_INTERVAL, MOST_TOTAL, MOST_VALUE, Refusal
@@ -9,6 +11,10 @@ from vector_forms import MOST_WORD, Draw, Generated, Judge, Project, Size, Split
 
 # Ledgers of more lines than this are left out, for a program with less room.
 LARGEST_LEDGER = 100_000
+
+# The largest interval before document 02's K4; at 2^32 and above error × interval may pass 64 bits.
+BASE_INTERVAL = 4_000_000_000
+WIDE = 2**32
 
 
 # ---- Size ----
@@ -47,7 +53,7 @@ def size_edges(level):
 
 def random_ledger(r):
     """A small legal ledger."""
-    most = r.one_of([1, 5, 60, 1_000, 10**6, 10**9, MOST_INTERVAL])
+    most = r.one_of([1, 5, 60, 1_000, 10**6, 10**9, BASE_INTERVAL])
     if r.chance(50):
         changes = tuple((place, r.between(0, 9 * most)) for place in range(0, r.between(0, 4)))
         return generated_ledger(r, r.between(max(1, len(changes)), 60), most, changes)
@@ -98,11 +104,11 @@ def split_ledgers():
         yield [7] * 10, n
         yield [0, 0, 1], n
     for extra in -1, 0, 1:
-        yield [MOST_INTERVAL + extra], 1
-        yield [MOST_INTERVAL + extra, MOST_INTERVAL + extra], 2
-        yield [MOST_INTERVAL, MOST_INTERVAL + extra], 2
-        yield [1, MOST_INTERVAL + extra, 0, MOST_VALUE], 2
-        yield [2 * MOST_INTERVAL + extra, 0, 1], 2
+        yield [BASE_INTERVAL + extra], 1
+        yield [BASE_INTERVAL + extra, BASE_INTERVAL + extra], 2
+        yield [BASE_INTERVAL, BASE_INTERVAL + extra], 2
+        yield [1, BASE_INTERVAL + extra, 0, MOST_VALUE], 2
+        yield [2 * BASE_INTERVAL + extra, 0, 1], 2
     yield [MOST_VALUE] * 100, 100
     yield [MOST_VALUE] * 100, 250_000
     yield [MOST_VALUE] * 100, MOST_WORD
@@ -191,7 +197,7 @@ def start_cases(r):
     for interval in 0, 1, 2, 3, 4, 5, 40, 63, 64, 65, 2**31, 2**31 + 1, 2**32 - 1, 2**32, 10**12, MOST_WORD:
         for words in [], [0], [MOST_WORD], [interval], [max(0, interval - 1)], [interval + 2**40], [63, 25]:
             yield Start(interval, listed([word % 2**64 for word in words]))
-    for interval in MOST_INTERVAL - 1, MOST_INTERVAL, MOST_INTERVAL + 1:
+    for interval in BASE_INTERVAL - 1, BASE_INTERVAL, BASE_INTERVAL + 1:
         for word in 0, interval - 1, interval, 2**32 - 1, 2**32 + interval - 1:
             yield Start(interval, listed([word]))
             yield Start(interval, listed([MOST_WORD, word]))
@@ -199,7 +205,7 @@ def start_cases(r):
         yield Start(65, equal(count, 127))  # none passes
         yield Start(65, equal(count, 127, ((count - 1, 64),)))  # the last passes
     for _ in range(300):
-        interval = r.one_of([2 ** r.between(1, 31) + r.between(0, 2), r.between(2, MOST_INTERVAL), r.between(2, 99)])
+        interval = r.one_of([2 ** r.between(1, 31) + r.between(0, 2), r.between(2, BASE_INTERVAL), r.between(2, 99)])
         bits = (interval - 1).bit_length()
         words = [r.below(2**64) for _ in range(r.between(0, 4))]
         rejected = [r.below(2**64) // 2**bits * 2**bits + 2**bits - 1 for _ in range(r.between(0, 3))]
@@ -263,8 +269,8 @@ def projected_edges(r):
     for values in broken_ledgers():
         yield listed(values), [MOST_WORD] * len(values), 0, 7
         yield listed(values), [0] * (len(values) + 1), 3, 0
-    whole = [MOST_INTERVAL, MOST_INTERVAL - 1, 1, MOST_INTERVAL]
-    yield listed(whole), whole, 3, MOST_INTERVAL - 1
+    whole = [BASE_INTERVAL, BASE_INTERVAL - 1, 1, BASE_INTERVAL]
+    yield listed(whole), whole, 3, BASE_INTERVAL - 1
     yield listed(whole[:2] + whole[3:]), whole[:2] + whole[3:], 3, 0
 
 
@@ -361,10 +367,64 @@ def largest_cases():
             yield Draw(ledger, 3_000, 12_345, count)
 
 
+# ---- Wide intervals ----
+
+
+def wide_ledgers(r):
+    """A ledger whose only draw has this interval, its first line's value and an error there: products of 65 to 94 bits, whose amounts are even, one above and one below."""
+    for bits in range(65, 95):
+        for _ in range(3):
+            interval = r.between(max(WIDE, 2 ** (bits - 1) // MOST_VALUE + 1), MOST_INTERVAL)
+            value = r.between(min(interval, MOST_VALUE, 2 ** (bits - 1) // interval + 1), min(interval, MOST_VALUE))
+            error = min(value, r.between(2 ** (bits - 1) // interval + 1, 2**bits // interval))
+            while math.gcd(error, value) > 1:
+                error -= 1
+            for left in 0, 1, value - 1:
+                even = interval - interval % value + left * pow(error, -1, value) % value if value > 1 else interval
+                if value <= even <= MOST_INTERVAL:
+                    yield value, error, even
+    for interval in BASE_INTERVAL + 1, WIDE - 1, WIDE, WIDE + 1, 10**11, MOST_VALUE, MOST_INTERVAL - 1, MOST_INTERVAL:
+        for value in 1, interval // 3, min(interval, MOST_VALUE) - 1, min(interval, MOST_VALUE):
+            for error in sorted({1, (value + 1) // 2, value - 1, value}):
+                if 0 <= error <= value <= MOST_VALUE:
+                    yield value, error, interval
+
+
+def filled(value, total):
+    """A ledger of this total that begins with this value."""
+    values = [value]
+    while total > sum(values):
+        values.append(min(MOST_VALUE, total - sum(values)))
+    return values
+
+
+def wide_cases(r):
+    """Intervals from 4,000,000,001 to 10^15."""
+    for value, error, interval in wide_ledgers(r):
+        values = filled(value, interval)
+        yield Project(listed(values), listed([error] + [0] * (len(values) - 1)), 1, r.one_of([0, value - 1]))
+        if r.chance(20):
+            yield Judge(r.one_of(list(EF)), listed(values), listed([error] + [0] * (len(values) - 1)), 1, 0, r.between(1, interval))
+            yield Split(listed(values), 1, len(values))
+            yield Draw(listed(values), 1, r.below(interval), len(values))
+    for interval in 2**49, 2**49 + 1, MOST_INTERVAL - 1, MOST_INTERVAL, MOST_INTERVAL + 1:
+        for word in 0, interval - 1, interval, 2**50 - 1, 2**50 + interval - 1:
+            yield Start(interval, listed([word]))
+            yield Start(interval, listed([MOST_WORD, word]))
+    for _ in range(100):
+        count = r.between(1, 40)
+        values = [r.between(0, MOST_VALUE) for _ in range(count)] + [1]
+        n = r.between(1, count)
+        first_point = starts_for(r, interval_of(values, n))
+        errors = errors_found(r, values, n, first_point)[0]
+        yield Project(listed(values), listed(errors), n, first_point)
+        yield Judge(r.one_of(list(EF)), listed(values), listed(errors), n, first_point, r.between(1, sum(values)))
+
+
 def every_case():
     r = Seeded(20)
     ways = [size_cases(r), split_cases(r), start_cases(r), draw_cases(r), project_cases(r), judge_cases(r)]
-    ways += [read_cases(r), write_cases(r), stored_reads(), largest_cases()]
+    ways += [read_cases(r), write_cases(r), stored_reads(), largest_cases(), wide_cases(Seeded(21))]
     for way in ways:
         for case in way:
             if not hasattr(case, "ledger") or case.ledger.count <= LARGEST_LEDGER:

@@ -87,7 +87,7 @@ static void size_cases(void)
 static void split_cases(void)
 {
     static const uint8_t marks[] = {2, 2, 0, 0, 2}, one[] = {2};
-    static const uint64_t large[] = {5, MUS_MOST_VALUE + 1}, wide[] = {MUS_MOST_INTERVAL + 1}, ten[] = {10};
+    static const uint64_t large[] = {5, MUS_MOST_VALUE + 1}, wide[] = {4000000001}, ten[] = {10};
     static uint64_t heavy[101];
     struct mus_split_result r;
     fill();
@@ -98,6 +98,8 @@ static void split_cases(void)
     r = mus_split(ten, 1, 2, bytes, 1);
     SAME(r, "split with nothing sampled", 0, 0, 0, 1, 0, 1, 10);
     wrote(one, 1, "the mark of the only line");
+    r = mus_split(wide, 1, 1, bytes, 1);
+    SAME(r, "split above 4,000,000,000", 0, 0, 4000000001, 1, 4000000001, 0, 0);
     fill();
     r = mus_split(rounds, 5, 0, bytes, 5);
     SAME(r, "split: 8", 8, 0, 0, 0, 0, 0, 0);
@@ -116,8 +118,6 @@ static void split_cases(void)
     SAME(r, "split: 4", 4, 100, 0, 0, 0, 0, 0);
     r = mus_split(none, 4, 4, bytes, 4);
     SAME(r, "split: 5", 5, 0, 0, 0, 0, 0, 0);
-    r = mus_split(wide, 1, 1, bytes, 1);
-    SAME(r, "split: 10", 10, 0, 0, 0, 0, 0, 0);
     unchanged("a refused split changes nothing");
 }
 

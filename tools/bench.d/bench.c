@@ -31,6 +31,13 @@ static void plain_ledger(void)
     start = 1234;
 }
 
+/* The same in larger money, so that the interval has 36 bits and error x interval may pass 64. */
+static void wide_ledger(void)
+{
+    plain_ledger();
+    for (size_t i = 0; i < lines; i++) ledger[i] *= 100000;
+}
+
 /* The same with a few long lines, each of which is above the interval of one round and not of the round before: so many rounds. */
 static void ledger_of_rounds(unsigned rounds)
 {
@@ -111,6 +118,7 @@ static void set_split_1(void) { ledger_of_rounds(1); draws = lines / 100; }
 static void set_split_3(void) { ledger_of_rounds(3); }
 static void set_split_10(void) { ledger_of_rounds(10); }
 static void set_project(void) { plain_ledger(); find_errors(20); }
+static void set_project_wide(void) { wide_ledger(); find_errors(20); }
 static void set_most_errors(void) { plain_ledger(); find_errors(MUS_MOST_ERRORS); }
 static void set_read(void) { longest_content(); call_write(); }
 
@@ -125,6 +133,7 @@ static const struct row {
     {"split-deep", deep_ledger, call_split},
     {"draw", plain_ledger, call_draw},
     {"project", set_project, call_project},
+    {"project-wide", set_project_wide, call_project},
     {"judge", set_project, call_judge},
     {"judge-63", set_most_errors, call_judge},
     {"read", set_read, call_read},

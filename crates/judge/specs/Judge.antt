@@ -53,7 +53,7 @@ judgedLines level te J lines = judgedWith level te J (projectionOf lines) (amoun
 unfoldable pub judgedAt : Level → List ℕ → ℕ → List ℕ → ℕ → ℕ → Outcome Judgement
 judgedAt level ledger start errors te J = after (judgedLines level te J) (checkedLines 0 J start ledger errors)
 
--- at the interval of the split's figures, after 8, 10 and 11
+-- at the interval of the split's figures, after 8 and 11
 unfoldable pub judgedFigures : Level → List ℕ → ℕ → ℕ → List ℕ → ℕ → Outcome Judgement
 judgedFigures level ledger n start errors te =
     after (λ figures. judgedAt level ledger start errors te (figures .interval)) (figuresFor ledger n start (length errors))

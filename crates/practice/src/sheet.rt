@@ -64,10 +64,9 @@ pub fn judgements() {
 }
 
 pub fn widest_intervals() {
-    split(&[4_000_000_000], 1, &mut [9; 1]);
     split(&[4_000_000_001], 1, &mut [9; 1]);
-    found(calls::start(4_000_000_000, &[0]));
-    found(calls::start(4_000_000_001, &[0]));
+    found(calls::start(1_000_000_000_000_000, &[0]));
+    found(calls::start(1_000_000_000_000_001, &[0]));
 }
 
 pub fn most_errors() {

@@ -7,7 +7,6 @@ use mathlib.Core.Path.{_≡_, refl, sym, ap, _∙_}
 use mathlib.Core.Logic.{⊎-elim}
 use mir.Syntax.{w64}
 use mir.Val.{Fits}
-use Rattle.terms.specs.Limits.{mostInterval}
 use Rattle.terms.specs.Numbers.{divUp}
 use Rattle.terms.proofs.Rounding.{divUp-is, divUp-least, below-divUp, divUp-enough}
 use Rattle.project.specs.Lines.{amount}
@@ -30,10 +29,14 @@ amount-none J v e some z =
     let none : divUp (e * J) v ≤ 0 = divUp-least 0 (e * J) v some (rw (z, zero-mul J) zero-le) in
     omega (arith, amount-is J v e)
 
--- what is divided fits 64 bits
-module _ (J v e : ℕ) (small : v ≤ J) (within : e ≤ v) (narrow : J ≤ mostInterval) where
-  pub product-most : e * J ≤ mostInterval * mostInterval
-  product-most = mul-le-mul {n₂ = mostInterval} {m₂ = mostInterval} (omega arith) narrow
+-- as the wide product gives it
+pub amount-wide : (J v e : ℕ) → divUp (J * e) v ≡ amount J v e
+amount-wide J v e = ap (λ (x : ℕ). divUp x v) (mul-comm J e) ∙ sym (amount-is J v e)
+
+-- at an interval of 32 bits what is divided fits 64
+module _ (J v e : ℕ) (small : v ≤ J) (within : e ≤ v) (narrow : J < 4294967296) where
+  pub product-most : e * J ≤ 4294967295 * 4294967295
+  product-most = mul-le-mul {n₂ = 4294967295} {m₂ = 4294967295} (omega arith) (omega arith)
 
   pub product-fits : Fits w64 (e * J)
   product-fits = record { fits = omega (arith, product-most) }

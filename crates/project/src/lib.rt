@@ -8,9 +8,8 @@ ghost use mathlib.Core.Path.{_≡_};
 ghost use Prim.Native.Nat.{_<_, _≤_};
 ghost use Rattle.terms.specs.Limits.{mostInterval};
 ghost use Rattle.project.specs.Lines.{amount};
-ghost use Rattle.project.specs.Gather.{lineAt, addedTo, Fits};
 ghost use Rattle.project.specs.Project.{lineSays, checkedLine, Ready, ProjectPromise};
-ghost use Rattle.project.specs.Gather.{keptBy, Room, PassPromise, GatherPromise};
+ghost use Rattle.project.specs.Gather.{lineAt, addedTo, Fits, keptBy, Room, PassPromise, GatherPromise};
 
 // What a line ends as; a drawn line carries its projected amount.
 pub enum State {
@@ -56,7 +55,7 @@ enum PassAnswer {
     Refused(Refusal),
 }
 
-// The amount of a drawn line: error × interval / value, rounded up once.
+// The amount of a drawn line: error × interval / value, rounded up once. At an interval of 32 bits the product fits 64.
 fn amount_of(value: u64, error: u64, interval: u64) -> u64
     requires { ⌜ (0 < value) × (value ≤ interval) × (error ≤ value) × (interval ≤ mostInterval) ⌝ }
     ensures { λ r. ⌜ r ≡ amount interval value error ⌝ }
@@ -64,7 +63,10 @@ fn amount_of(value: u64, error: u64, interval: u64) -> u64
     if error == 0 {
         return 0;
     }
-    (error * interval + (value - 1)) / value
+    if interval < 4_294_967_296 {
+        return (error * interval + (value - 1)) / value;
+    }
+    wide::scaled_up(interval, error, value)
 }
 
 // A line with its state, by the distance from its first cent to the next drawing point.

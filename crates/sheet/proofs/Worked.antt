@@ -69,11 +69,16 @@ pub no-draws : (sheetText (file 90 0 0 (Value 30 ∷ Value 10000000000001 ∷ En
 unfolding sheetText decode run recordOf fits grow littleEndian stepsText stepsOf totalledFrom sizedFrom splitFrom startedFrom judgedFrom levelOf ledger.ledgerOf ledger.runningTotal ledger.runningFrom sizeOf sizeAt factors.rf factors.stepOf table divUp splitOf figuresFrom rounds startOf tried firstFrom judgeOf judgedLedger judgedFigures judgedAt judgedLines judgedWith concluded verdictOf figuresFor checkedLines checkedFrom checkedLine linesOf linesFrom covers points amount total amountsOf precisionOf hundredths roundUp sortDown sortOnto insertDown answersText ledgerText itemsText decimal decimalIn
 no-draws = (refl, refl, refl, refl)
 
--- 10 before 12, and 12 before 14, with the words that were lent
-pub no-start : (sheetText (file 50 4000000001 0 (Value 4000000001 ∷ End 1 4000000001 ∷ [])) ≡ letters "refused 10 0\n")
-    × (sheetText (file 90 100 0 (Word 63 ∷ Word 40 ∷ claims (ErrorOf 0 31 ∷ []))) ≡ letters "refused 12 2\n")
+-- 12 before 14, with the words that were lent
+pub no-start : sheetText (file 90 100 0 (Word 63 ∷ Word 40 ∷ claims (ErrorOf 0 31 ∷ []))) ≡ letters "refused 12 2\n"
 unfolding sheetText decode run recordOf fits grow littleEndian stepsText stepsOf totalledFrom sizedFrom splitFrom startedFrom judgedFrom levelOf ledger.ledgerOf ledger.runningTotal ledger.runningFrom sizeOf sizeAt factors.rf factors.stepOf table divUp splitOf figuresFrom rounds startOf tried firstFrom judgeOf judgedLedger judgedFigures judgedAt judgedLines judgedWith concluded verdictOf figuresFor checkedLines checkedFrom checkedLine linesOf linesFrom covers points amount total amountsOf precisionOf hundredths roundUp sortDown sortOnto insertDown answersText ledgerText itemsText decimal decimalIn
-no-start = (refl, refl)
+no-start = refl
+
+-- an interval of 10^12: error × interval passes 64 bits
+pub wide-interval : sheetText (file 50 1000000000000 0 (Word 7 ∷ Value 1000000000000 ∷ ErrorOf 0 999999999999 ∷ End 1 1000000000000 ∷ []))
+    ≡ letters "plan 50 1000000000000 1000000000000 0 1\nsplit 1000000000000 1 1000000000000 0 0\nstart 7 1\ndrawn 0 1000000000000 999999999999 999999999999\nproject 0 999999999999 1\njudge 680000000001 1680000000000 inconclusive\n"
+unfolding sheetText decode run recordOf fits grow littleEndian stepsText stepsOf totalledFrom sizedFrom splitFrom startedFrom judgedFrom levelOf ledger.ledgerOf ledger.runningTotal ledger.runningFrom sizeOf sizeAt factors.rf factors.stepOf table divUp splitOf figuresFrom rounds startOf tried firstFrom judgeOf judgedLedger judgedFigures judgedAt judgedLines judgedWith concluded verdictOf figuresFor checkedLines checkedFrom checkedLine linesOf linesFrom covers points amount total amountsOf precisionOf hundredths roundUp sortDown sortOnto insertDown answersText ledgerText itemsText decimal decimalIn
+wide-interval = refl
 
 -- 14 and 15 line by line
 pub no-errors : (sheetText (file 90 100 0 (Word 25 ∷ claims (ErrorOf 0 7 ∷ ErrorOf 1 31 ∷ []))) ≡ letters "refused 14 1\n")

@@ -4,13 +4,12 @@ use mathlib.Core.List.{List}
 use Prim.Native.Nat.{ℕ, _-_, _^_, _≤_, _<_}
 use native.Mathlib.Nat.{le-refl}
 use native.Mathlib.Omega.{arith}
-use borrow.Author.Tests.{lt-ltb, le-ltb, eq-eqb, ne-eqb}
+use borrow.Author.Tests.{eq-eqb, ne-eqb}
 use lib.ListN.{length}
-use Rattle.terms.specs.Outcome.{Outcome, accepted, refused}
+use Rattle.terms.specs.Outcome.{accepted, refused}
 use Rattle.terms.specs.Numbers.{sum}
-use Rattle.terms.specs.Limits.{mostInterval}
 use Rattle.split.specs.Rounds.{above, upTo, Rest, splitLines}
-use Rattle.split.specs.Split.{Totalled, sampled, figuresOf, withinMost, figuresFrom}
+use Rattle.split.specs.Split.{Totalled, sampled, figuresOf, figuresFrom}
 use Rattle.split.specs.declared.Figures.{Figures}
 use Rattle.split.specs.declared.Sampled.{Sampled}
 use Rattle.split.proofs.Lines.{sum-parts, within-sum}
@@ -30,22 +29,14 @@ module _ {ledger : List ℕ} {t : ℕ} (at : Totalled ledger t) where
   pub sum-whole : t ≡ sum (upTo t ledger)
   sum-whole = let e = at .added in omega (arith, ap sum all-lines)
 
--- 10, by whether the interval is above its maximum
-module _ (f : Figures) where
-  pub interval-too-large : mostInterval < f .interval → refused 10 0 ≡ withinMost f
-  interval-too-large h = simp (lt-ltb _ _ h)
-
-  pub interval-within : f .interval ≤ mostInterval → accepted f ≡ withinMost f
-  interval-within h = simp (le-ltb _ _ h)
-
--- 8, or what the figures come to
+-- 8, or the figures
 pub no-draws : (ledger : List ℕ) (n : ℕ) → n ≡ 0 → refused 8 0 ≡ figuresFrom ledger n
 unfolding figuresFrom
 no-draws ledger n e = sym (simp (eq-eqb _ _ e))
 
-pub with-draws : (ledger : List ℕ) (n : ℕ) {f : Figures} {o : Outcome Figures} → (n ≡ 0 → ⊥) → f ≡ figuresOf ledger (splitLines ledger n) → o ≡ withinMost f → o ≡ figuresFrom ledger n
+pub with-draws : (ledger : List ℕ) (n : ℕ) {f : Figures} → (n ≡ 0 → ⊥) → f ≡ figuresOf ledger (splitLines ledger n) → accepted f ≡ figuresFrom ledger n
 unfolding figuresFrom
-with-draws ledger n some e s = s ∙ ap withinMost e ∙ sym (simp (ne-eqb _ _ some))
+with-draws ledger n some e = ap accepted e ∙ sym (simp (ne-eqb _ _ some))
 
 -- where the recursion has answered s
 module _ {ledger : List ℕ} {n t : ℕ} {s : Sampled} (at : Totalled ledger t) (some : 0 < n) (answer : s ≡ sampled (splitLines (upTo t ledger) n)) where

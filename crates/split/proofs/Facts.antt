@@ -1,27 +1,25 @@
 -- What holds of every split, as an accepted answer's figures say it; and which refusals are given. Assumes nothing.
 use mathlib.Core.Path.{_≡_, refl, sym, ap, subst, _∙_}
 use mathlib.Core.List.{List, [], _∷_}
-use mathlib.Core.Bool.{Bool, true, false}
 use mathlib.Core.Logic.{⊎-elim}
 use Prim.Native.Nat.{ℕ, _+_, _/_, _≤_, _<_}
-use native.Mathlib.Nat.{eq-zero-or-pos}
+use native.Mathlib.Nat.{eq-zero-or-pos, div-le-self}
 use native.Mathlib.Omega.{arith}
-use borrow.Author.Tests.{ltb-false, eqb-false, ne-eqb}
-use lib.Dec.{T, ltb, eqb}
+use borrow.Author.Tests.{eqb-false, ne-eqb}
+use lib.Dec.{ltb, eqb}
 use lib.ListN.{length}
 use Rattle.terms.specs.declared.Refusal.{Refusal}
 use Rattle.terms.specs.Outcome.{Outcome, accepted, after, left}
 use Rattle.terms.specs.Numbers.{sum}
 use Rattle.terms.specs.Limits.{mostInterval}
-use Rattle.terms.proofs.Every.{both}
-use Rattle.terms.proofs.Outcomes.{never, after-accepted, among, Gives, gives-after, gives-among}
+use Rattle.terms.proofs.Outcomes.{never, after-accepted, Gives, gives-after, gives-among}
 use Rattle.terms.proofs.Tests.{by-test}
 use Rattle.ledger.specs.declared.LedgerAnswer.{LedgerAnswer}
 use Rattle.ledger.specs.declared.LedgerAnswer.the-variants as judged
 use Rattle.ledger.specs.Ledger.{ledgerSays, ledgerOf, LedgerPromise}
 use Rattle.ledger.proofs.Laws.{Good, good, ledgerNumbers, ledger-gives}
 use Rattle.split.specs.Rounds.{above, upTo, intervalOf, Rest, splitLines, intervals, becomesFull}
-use Rattle.split.specs.Split.{splitSays, Totalled, figuresOf, withinMost, figuresFrom, splitOf, fullMarks, marksOf, KeepsDraw, FiguresPromise, SplitPromise}
+use Rattle.split.specs.Split.{splitSays, Totalled, figuresOf, figuresFrom, splitOf, fullMarks, marksOf, KeepsDraw, FiguresPromise, SplitPromise}
 use Rattle.split.specs.declared.Figures.{Figures}
 use Rattle.split.specs.declared.SplitAnswer.{SplitAnswer}
 use Rattle.split.specs.declared.SplitAnswer.the-variants.{Split, Refused}
@@ -44,23 +42,25 @@ pub record SplitFacts (ledger : List ℕ) (n beside : ℕ) (f : Figures) : Type 
   pub full : f .«full_lines» ≡ length (above (f .interval) ledger)
   -- a line becomes full in some round exactly when its value exceeds the final J
   pub exactly : (value : ℕ) → becomesFull (intervals n ledger n) value ≡ ltb (f .interval) value
-  -- J is the sampled total by the draws left, no larger than the first, and within its maximum
+  -- J is the sampled total by the draws left, no larger than the first, at most the ledger's total, and so within its maximum
   pub final : f .interval ≡ f .«sampled_total» / f .«draws_left»
   pub small : f .interval ≤ intervalOf ledger n
+  pub within : f .interval ≤ sum ledger
   pub most : f .interval ≤ mostInterval
   -- there is no interval only where nothing with value remains
   pub zero : f .interval ≡ 0 → f .«sampled_total» ≡ 0
 
 module _ (ledger : List ℕ) (n : ℕ) (some : 0 < n) where
-  pub settled-is : figuresFrom ledger n ≡ withinMost (figuresOf ledger (splitLines ledger n))
+  pub settled-is : figuresFrom ledger n ≡ accepted (figuresOf ledger (splitLines ledger n))
   unfolding figuresFrom
   settled-is = let draws : n ≡ 0 → ⊥ = λ z. omega arith in simp (ne-eqb _ _ draws)
 
-  facts-of : (beside : ℕ) (f : Figures) → Good ledger beside (sum ledger) → splitLines ledger n .interval ≤ mostInterval → f ≡ figuresOf ledger (splitLines ledger n) → SplitFacts ledger n beside f
-  facts-of beside f g top same =
+  facts-of : (beside : ℕ) (f : Figures) → Good ledger beside (sum ledger) → f ≡ figuresOf ledger (splitLines ledger n) → SplitFacts ledger n beside f
+  facts-of beside f g same =
       let r : Rest = splitLines ledger n in
       let k = split-settles ledger n some in
       let rest = ap sum (k .rest) in
+      let top : r .interval ≤ sum ledger = omega (arith, k .small, div-le-self (sum ledger) n) in
       rw same (record {
         ledger-good = g;
         rounds = refl;
@@ -72,15 +72,16 @@ module _ (ledger : List ℕ) (n : ℕ) (some : 0 < n) where
         exactly = λ value. full-exactly ledger n value some;
         final = k .final;
         small = k .small;
-        most = top;
+        within = top;
+        most = omega (arith, g .most);
         zero = λ z. rest ∙ ap (λ (j : ℕ). sum (upTo j ledger)) z ∙ upTo-zero ledger;
       })
 
   facts-settled : (beside : ℕ) (f : Figures) → Good ledger beside (sum ledger) → figuresFrom ledger n ≡ accepted f → SplitFacts ledger n beside f
   facts-settled beside f g e =
-      by-test (λ o. o ≡ accepted f → SplitFacts ledger n beside f) (ltb mostInterval (splitLines ledger n .interval)) (λ p h. never h)
-      (λ p h. let same : f ≡ figuresOf ledger (splitLines ledger n) = cc in facts-of beside f g (ltb-false _ _ p) same)
-      (sym settled-is ∙ e)
+      let h = sym e ∙ settled-is in
+      let same : f ≡ figuresOf ledger (splitLines ledger n) = cc in
+      facts-of beside f g same
 
 -- without draws nothing is accepted
 pub some-draws : (ledger : List ℕ) (n : ℕ) {f : Figures} → figuresFrom ledger n ≡ accepted f → 0 < n
@@ -98,6 +99,10 @@ split-facts ledger n beside f e =
 -- the split keeps a draw: the lines above J are always fewer than the draws (`few` of Laws.antt)
 pub keeps-draw : (ledger : List ℕ) (n beside : ℕ) {o : Outcome Figures} → o ≡ splitOf ledger n beside → KeepsDraw o
 keeps-draw ledger n beside e f h = omega (arith, split-facts ledger n beside f (sym e ∙ h) .a-draw)
+
+-- the interval of a split is never above the ledger's total, so that no ledger earns 10
+pub interval-within : (ledger : List ℕ) (n beside : ℕ) (f : Figures) → splitOf ledger n beside ≡ accepted f → f .interval ≤ sum ledger
+interval-within ledger n beside f e = split-facts ledger n beside f e .within
 
 -- the split is what follows from the ledger's outcome
 pub from-ledger : (ledger : List ℕ) (n beside : ℕ) {o : Outcome ℕ} → o ≡ ledgerOf ledger beside → after (λ total. figuresFrom ledger n) o ≡ splitOf ledger n beside
@@ -134,21 +139,15 @@ split-same {ledger} {n} {beside} {r} {f} is p = split-facts ledger n beside f (s
 
 -- the refusals that the split gives: 8 only without draws
 abbrev pub splitNumbers : List ℕ
-splitNumbers = 2 ∷ 13 ∷ 3 ∷ 4 ∷ 5 ∷ 8 ∷ 10 ∷ []
+splitNumbers = 2 ∷ 13 ∷ 3 ∷ 4 ∷ 5 ∷ 8 ∷ []
 
-pub drawn-gives : (ledger : List ℕ) (n : ℕ) → 0 < n → Gives (10 ∷ []) (figuresFrom ledger n)
-drawn-gives ledger n some = rw (settled-is ledger n some) (by-test (Gives (10 ∷ [])) (ltb mostInterval (splitLines ledger n .interval)) (λ p. tt) (λ p. tt))
+-- a split by draws gives what the judgement of the ledger gives, and nothing else
+drawn-gives : (numbers : List ℕ) (ledger : List ℕ) (n : ℕ) → 0 < n → Gives numbers (figuresFrom ledger n)
+drawn-gives numbers ledger n some = rw (settled-is ledger n some) tt
 
--- a split by draws gives what the judgement of the ledger gives, and 10
-pub split-with-draws : (numbers : List ℕ) (ledger : List ℕ) (n beside : ℕ) → 0 < n → T (among 10 numbers) → Gives numbers (ledgerOf ledger beside) → Gives numbers (splitOf ledger n beside)
+pub split-with-draws : (numbers : List ℕ) (ledger : List ℕ) (n beside : ℕ) → 0 < n → Gives numbers (ledgerOf ledger beside) → Gives numbers (splitOf ledger n beside)
 unfolding splitOf
-split-with-draws numbers ledger n beside some ten g =
-    gives-after numbers (λ total. figuresFrom ledger n) (ledgerOf ledger beside) g
-    (λ total. gives-among (10 ∷ []) numbers (both-of (among 10 numbers) ten) (figuresFrom ledger n) (drawn-gives ledger n some))
-  where
-    both-of : (b : Bool) → T b → T (both b true)
-    both-of true t = tt
-    both-of false t = t
+split-with-draws numbers ledger n beside some g = gives-after numbers (λ total. figuresFrom ledger n) (ledgerOf ledger beside) g (λ total. drawn-gives numbers ledger n some)
 
 pub split-gives : (ledger : List ℕ) (n beside : ℕ) → Gives splitNumbers (splitOf ledger n beside)
 unfolding splitOf
@@ -156,5 +155,5 @@ split-gives ledger n beside =
     gives-after splitNumbers (λ total. figuresFrom ledger n) (ledgerOf ledger beside) (gives-among ledgerNumbers splitNumbers tt (ledgerOf ledger beside) (ledger-gives ledger beside))
     (λ total. ⊎-elim
     (λ (z : n ≡ 0). subst (Gives splitNumbers) (no-draws ledger n z) tt)
-    (λ some. gives-among (10 ∷ []) splitNumbers tt (figuresFrom ledger n) (drawn-gives ledger n some))
+    (λ some. drawn-gives splitNumbers ledger n some)
     (eq-zero-or-pos n))

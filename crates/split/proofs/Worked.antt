@@ -2,6 +2,7 @@
 use mathlib.Core.Path.{_≡_, refl}
 use mathlib.Core.List.{List, [], _∷_}
 use Prim.Native.Nat.{ℕ}
+use lib.ListN.{replicate}
 use Rattle.terms.specs.Outcome.{accepted, refused, left}
 use Rattle.ledger.specs.Ledger.{ledgerOf, runningTotal, runningFrom}
 use Rattle.split.specs.Rounds.{rounds, intervals}
@@ -37,9 +38,10 @@ pub many-draws : splitOf grants 1000000000000 5 ≡ accepted (record { interval 
 unfolding splitOf figuresFrom ledgerOf runningTotal runningFrom rounds
 many-draws = refl
 
--- the widest interval, and one cent more
-pub widest : (splitOf (4000000000 ∷ []) 1 1 ≡ accepted (record { interval = 4000000000; «draws_left» = 1; «sampled_total» = 4000000000; «full_lines» = 0; «full_total» = 0 }))
-    × (splitOf (4000000001 ∷ []) 1 1 ≡ refused 10 0)
+-- an interval above 4,000,000,000, and the widest of all: the largest total and one draw
+pub widest : (splitOf (4000000001 ∷ []) 1 1 ≡ accepted (record { interval = 4000000001; «draws_left» = 1; «sampled_total» = 4000000001; «full_lines» = 0; «full_total» = 0 }))
+    × (splitOf (replicate 100 10000000000000) 1 100
+    ≡ accepted (record { interval = 1000000000000000; «draws_left» = 1; «sampled_total» = 1000000000000000; «full_lines» = 0; «full_total» = 0 }))
 unfolding splitOf figuresFrom ledgerOf runningTotal runningFrom rounds
 widest = (refl, refl)
 

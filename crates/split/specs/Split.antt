@@ -6,7 +6,7 @@ use lib.ListN.{length}
 use lib.Dec.{ltb, eqb}
 use Rattle.terms.specs.Outcome.{Outcome, accepted, refused, refusedBy, after, left}
 use Rattle.terms.specs.Numbers.{pick, sum}
-use Rattle.terms.specs.Limits.{mostTotal, mostInterval}
+use Rattle.terms.specs.Limits.{mostTotal}
 use Rattle.ledger.specs.Ledger.{ledgerOf}
 use Rattle.split.specs.Rounds.{above, Rest, splitLines}
 use Rattle.split.specs.declared.{Figures.Figures, Sampled.Sampled, SplitAnswer.SplitAnswer}
@@ -36,13 +36,9 @@ figuresOf ledger r =
       «full_total» = sum (above (r .interval) ledger);
     }
 
--- 10 where the final J is above its maximum
-abbrev pub withinMost : Figures → Outcome Figures
-withinMost figures = pick (ltb mostInterval (figures .interval)) (refused 10 0) (accepted figures)
-
 -- 8 where there are no draws
 unfoldable pub figuresFrom : List ℕ → ℕ → Outcome Figures
-figuresFrom ledger n = pick (eqb n 0) (refused 8 0) (withinMost (figuresOf ledger (splitLines ledger n)))
+figuresFrom ledger n = pick (eqb n 0) (refused 8 0) (accepted (figuresOf ledger (splitLines ledger n)))
 
 -- after the refusals of the ledger; `beside` is the length of the buffer that is lent with it
 unfoldable pub splitOf : List ℕ → ℕ → ℕ → Outcome Figures

@@ -17,7 +17,7 @@ startFits start J = pick (eqb J 0) (eqb start 0) (ltb start J)
 abbrev pub startIn : ℕ → Figures → Outcome Figures
 startIn start figures = pick (startFits start (figures .interval)) (accepted figures) (refused 11 0)
 
--- the figures for a start, of a ledger that is judged: after 8 and 10
+-- the figures for a start, of a ledger that is judged: after 8
 unfoldable pub figuresAt : List ℕ → ℕ → ℕ → Outcome Figures
 figuresAt ledger n start = after (startIn start) (figuresFrom ledger n)
 

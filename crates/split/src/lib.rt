@@ -7,7 +7,7 @@ ghost use Prim.Native.Nat.{_<_, _^_};
 ghost use lib.ListN.{length};
 ghost use Rattle.terms.specs.Numbers.{sum};
 ghost use Rattle.split.specs.Rounds.{above, upTo, splitLines};
-ghost use Rattle.split.specs.Split.{Totalled, splitSays, sampled, figuresOf, withinMost, figuresFrom, fullMarks, FiguresPromise, SplitPromise};
+ghost use Rattle.split.specs.Split.{Totalled, splitSays, sampled, figuresOf, figuresFrom, fullMarks, FiguresPromise, SplitPromise};
 ghost use Rattle.split.specs.Start.{startIn, figuresAt, FiguresForPromise};
 
 // The final interval and what it leaves: the draws, the sampled lines' total, the full lines and their total.
@@ -96,17 +96,7 @@ pub fn figures_of(ledger: &[u64], n: u64, total: u64) -> Figures
     }
 }
 
-// The figures, or 10 where the final interval is above its maximum.
-fn within_most(figures: Figures) -> SplitAnswer
-    ensures { λ r. ⌜ splitSays r ≡ withinMost figures ⌝ }
-{
-    if figures.interval > terms::MOST_INTERVAL {
-        return SplitAnswer::Refused(Refusal::IntervalTooLarge);
-    }
-    SplitAnswer::Split(figures)
-}
-
-// The split of a ledger whose judgement gave this total: 8, 10, or the figures.
+// The split of a ledger whose judgement gave this total: 8, or the figures.
 pub fn split_total(ledger: &[u64], n: u64, total: u64) -> SplitAnswer
     requires { ⌜ Totalled (now ledger) total ⌝ }
     ensures { λ r. ⌜ splitSays r ≡ figuresFrom (now (ledger .entry)) n ⌝ }
@@ -115,7 +105,7 @@ pub fn split_total(ledger: &[u64], n: u64, total: u64) -> SplitAnswer
         return SplitAnswer::Refused(Refusal::NoDraws);
     }
     let figures = figures_of(ledger, n, total);
-    within_most(figures)
+    SplitAnswer::Split(figures)
 }
 
 // The split without marks: what every step over a split ledger starts from. `beside` is the length of the buffer that is lent
@@ -167,7 +157,7 @@ pub fn start_in(start: Cent, figures: Figures) -> SplitAnswer
     SplitAnswer::Split(figures)
 }
 
-// The figures for a start, from a ledger whose judgement gave this total: 8, 10, 11.
+// The figures for a start, from a ledger whose judgement gave this total: 8, 11.
 pub fn figures_at(ledger: &[u64], n: u64, start: Cent, total: u64) -> SplitAnswer
     requires { ⌜ Totalled (now ledger) total ⌝ }
     ensures { λ r. ⌜ splitSays r ≡ figuresAt (now (ledger .entry)) n (start .0) ⌝ }

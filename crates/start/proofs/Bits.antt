@@ -60,7 +60,7 @@ width-is n h =
 
 -- a number up to the largest interval is narrower than 64 bits, so `1 << width` at 64 bits is 2 ^ width
 pub narrow : (n : ℕ) → n ≤ mostInterval → 64 - leadingZeros 64 n < 64
-narrow n m = let l = bits-right n .least 32 (omega arith) in omega (arith, width-is n (omega arith))
+narrow n m = let l = bits-right n .least 50 (omega arith) in omega (arith, width-is n (omega arith))
 
 pub range-is : (n last : ℕ) → n ≤ mostInterval → n ≡ last → (1 * 2 ^ (64 - leadingZeros 64 n)) % 2 ^ 64 ≡ 2 ^ bits last
 range-is n last m e =

@@ -55,6 +55,16 @@ start-gives J l =
     by-test (Gives startNumbers) (ltb mostInterval J) (λ p. tt)
     (λ p. by-test (Gives startNumbers) (leb J 1) (λ q. tt) (λ q. first-gives J (2 ^ bits (J - 1)) 0 l))
 
+-- an interval within its maximum gives 12 alone
+first-words : (J range read : ℕ) (l : List ℕ) → Gives (12 ∷ []) (firstFrom J range read l)
+unfolding firstFrom
+first-words J range read [] = tt
+first-words J range read (word ∷ l) = by-test (Gives (12 ∷ [])) (ltb (word % range) J) (λ p. tt) (λ p. first-words J range (suc read) l)
+
+pub within-gives : (J : ℕ) (l : List ℕ) → J ≤ mostInterval → Gives (12 ∷ []) (startOf J l)
+unfolding startOf
+within-gives J l most = rw (le-ltb mostInterval J most) (by-test (Gives (12 ∷ [])) (leb J 1) (λ q. tt) (λ q. first-words J (2 ^ bits (J - 1)) 0 l))
+
 -- refusal 12 is given exactly when J is 2 or more and no lent word passes; its place is the number of words lent
 none-from : (J read : ℕ) (l : List ℕ) → NonePasses J l → firstFrom J (2 ^ bits (J - 1)) read l ≡ refused 12 (read + length l)
 unfolding firstFrom

@@ -31,7 +31,7 @@ pub uniform : (J v : ℕ) → 2 ≤ J → J ≤ mostInterval → v < J → count
 uniform J v h m l =
     let b = bits-right (J - 1) in
     let w : ℕ = bits (J - 1) in
-    let narrow = b .least 32 (omega arith) in
+    let narrow = b .least 50 (omega arith) in
     let parts : 64 ≡ (64 - w) + w = omega arith in
     let whole : 2 ^ 64 ≡ 2 ^ (64 - w) * 2 ^ w = ap (λ (e : ℕ). 2 ^ e) parts ∙ pow-add 2 (64 - w) w in
     count-same (2 ^ 64) (gives J v) (λ (x : ℕ). eqb (x % 2 ^ w) v) (λ x k. gives-is J v x h m l)

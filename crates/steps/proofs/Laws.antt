@@ -19,11 +19,11 @@ use Rattle.size.proofs.Laws.{at-least-one, sizeNumbers, size-gives}
 use Rattle.split.specs.declared.Figures.{Figures}
 use Rattle.split.specs.Split.{splitOf}
 use Rattle.split.specs.Start.{figuresFor}
-use Rattle.split.proofs.Facts.{split-with-draws}
+use Rattle.split.proofs.Facts.{split-facts, split-with-draws}
 use Rattle.split.proofs.Start.{start-accepted, start-zero}
 use Rattle.start.specs.declared.Chosen.{Chosen}
 use Rattle.start.specs.Start.{startOf}
-use Rattle.start.proofs.Laws.{within, no-interval, startNumbers, start-gives}
+use Rattle.start.proofs.Laws.{within, no-interval, within-gives}
 use Rattle.judge.specs.Judge.{judgeOf}
 use Rattle.judge.proofs.Laws.{judge-started}
 use Rattle.workfile.specs.declared.Plan.{Plan}
@@ -48,9 +48,9 @@ gives-then : {A B : Type 0} (numbers : List ℕ) (next : A → Outcome B) (o : O
 gives-then numbers next (accepted a) g h = h a refl
 gives-then numbers next (refused n p) g h = g
 
--- the refusals that the steps give on a legal file: 2, 8, 11 and 13 are not among them
+-- the refusals that the steps give on a legal file: 2, 8, 10, 11 and 13 are not among them
 abbrev pub stepsNumbers : List ℕ
-stepsNumbers = 1 ∷ 3 ∷ 4 ∷ 5 ∷ 6 ∷ 7 ∷ 10 ∷ 12 ∷ 14 ∷ 15 ∷ 16 ∷ []
+stepsNumbers = 1 ∷ 3 ∷ 4 ∷ 5 ∷ 6 ∷ 7 ∷ 12 ∷ 14 ∷ 15 ∷ 16 ∷ []
 
 level-known : (percent : ℕ) → Gives stepsNumbers (levelOf percent)
 level-known percent = gives-among (1 ∷ []) stepsNumbers tt (levelOf percent) (level-gives percent)
@@ -82,9 +82,9 @@ module _ (ledger errors : List ℕ) (few : length ledger ≤ mostFileLines) (sam
   unfolding splitFrom startedFrom
   split-gives p words some =
       gives-then stepsNumbers (startedFrom p words ledger errors) (splitOf ledger (p .draws) (length errors))
-      (split-with-draws stepsNumbers ledger (p .draws) (length errors) some tt ledger-known)
+      (split-with-draws stepsNumbers ledger (p .draws) (length errors) some ledger-known)
       (λ f split. gives-then stepsNumbers (judgedFrom p ledger errors f) (startOf (f .interval) words)
-      (gives-among startNumbers stepsNumbers tt (startOf (f .interval) words) (start-gives (f .interval) words))
+      (gives-among (12 ∷ []) stepsNumbers tt (startOf (f .interval) words) (within-gives (f .interval) words (split-facts ledger (p .draws) (length errors) f split .most)))
       (λ s started. judged-gives p f s (start-fits words ledger (p .draws) (length errors) f s split started)))
 
   pub steps-give : (plan : Plan) (words : List ℕ) → Gives stepsNumbers (stepsOf plan words ledger errors)

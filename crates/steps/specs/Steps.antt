@@ -40,7 +40,7 @@ judgedFrom planned ledger errors figures chosen =
 unfoldable pub startedFrom : Planned → List ℕ → List ℕ → List ℕ → Figures → Outcome Answers
 startedFrom planned words ledger errors figures = after (judgedFrom planned ledger errors figures) (startOf (figures .interval) words)
 
--- the split: 8, 10
+-- the split: 8
 unfoldable pub splitFrom : Planned → List ℕ → List ℕ → List ℕ → Outcome Answers
 splitFrom planned words ledger errors = after (startedFrom planned words ledger errors) (splitOf ledger (planned .draws) (length errors))
 

@@ -79,7 +79,7 @@ fn started(
     }
 }
 
-// The split: 8, 10.
+// The split: 8.
 fn parted(planned: Planned, words: &[u64], ledger: &[u64], errors: &[u64]) -> StepsAnswer
     ensures { λ r. ⌜ stepsSays r ≡ splitFrom planned (now (words .entry)) (now (ledger .entry)) (now (errors .entry)) ⌝ }
 {

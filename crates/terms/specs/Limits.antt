@@ -1,4 +1,4 @@
--- The sizes of document 01. Definitions: nothing is assumed.
+-- The sizes of document 01; the interval's is that of document 02, K4. Definitions: nothing is assumed.
 use Prim.Native.Nat.{ℕ}
 
 abbrev pub mostLines : ℕ
@@ -11,7 +11,7 @@ abbrev pub mostTotal : ℕ
 mostTotal = 1000000000000000
 
 abbrev pub mostInterval : ℕ
-mostInterval = 4000000000
+mostInterval = 1000000000000000
 
 abbrev pub mostErrors : ℕ
 mostErrors = 63

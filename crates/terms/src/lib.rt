@@ -10,7 +10,7 @@ pub const MOST_VALUE: u64 = 10_000_000_000_000;
 
 pub const MOST_TOTAL: u64 = 1_000_000_000_000_000;
 
-pub const MOST_INTERVAL: u64 = 4_000_000_000;
+pub const MOST_INTERVAL: u64 = 1_000_000_000_000_000;
 
 pub const MOST_ERRORS: usize = 63;
 

@@ -1,4 +1,4 @@
--- `split::split_total` meets its contract: 8, or what the figures come to. Assumes nothing.
+-- `split::split_total` meets its contract: 8, or the figures. Assumes nothing.
 use native.Mathlib.Omega.{arith}
 use borrow.Author.Needs.{needs}
 use Rattle.split.proofs.Answer.{no-draws, with-draws}
@@ -10,5 +10,5 @@ split-total-spec =
     tie.close
     (tie.spec
     (λ c. no-draws _ _ (omega arith))
-    (λ c κs. search needs) (λ c κs. search needs)
+    (λ c κs. search needs)
     (λ c. search with-draws))

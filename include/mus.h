@@ -49,7 +49,7 @@ enum mus_refusal {
     MUS_INTERVAL_TOO_LARGE = 10,    /* an interval handed in is above MUS_MOST_INTERVAL: mus_start alone */
     MUS_START_OUT_OF_RANGE = 11,    /* the start is not below the interval, or not 0 where there is none */
     MUS_NO_WORD_PASSES = 12,        /* no random word passes; the number of words lent */
-    MUS_LENGTHS_DIFFER = 13,        /* marks or errors differ from the ledger in length */
+    MUS_LENGTHS_DIFFER = 13,        /* marks, errors or amounts differ from the ledger in length */
     MUS_ERROR_ABOVE_VALUE = 14,     /* an error exceeds its line's value; the line */
     MUS_ERROR_NOT_DRAWN = 15,       /* an error above 0 on a line not drawn and not full; the line */
     MUS_TOO_MANY_ERRORS = 16,       /* more than MUS_MOST_ERRORS drawn lines with an error */
@@ -139,6 +139,11 @@ struct mus_draw_result mus_draw(const uint64_t *ledger, size_t ledger_length, ui
 /* The projection of the errors that were found: an entry for each line, 0 where there is none. A full line counts with its error, a
  * drawn line with error x interval / value, rounded up. Refusals 2, 13, 3, 4, 5, 8, 11, 14, 15. */
 struct mus_project_result mus_project(const uint64_t *ledger, size_t ledger_length, uint64_t n, uint64_t start, const uint64_t *errors, size_t errors_length);
+
+/* The same projection, line by line: answers what mus_project answers, and writes for each line what it projects into amounts, which has an
+ * entry for each line: its error where it is full, its amount where it is drawn, 0 elsewhere. They add to full + sampled. A program
+ * never has to multiply by the interval itself. Refusals 2, 13 (for errors or amounts), 3, 4, 5, 8, 11, 14, 15. */
+struct mus_project_result mus_project_lines(const uint64_t *ledger, size_t ledger_length, uint64_t n, uint64_t start, const uint64_t *errors, size_t errors_length, uint64_t *amounts, size_t amounts_length);
 
 /* The judgement: the projection with its precision at a level, its upper limit, and the verdict against the tolerable error TE.
  * Refusals 1, 2, 13, 3, 4, 5, 6, 8, 11, 14, 15, 16. */

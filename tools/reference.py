@@ -164,11 +164,11 @@ def check_level(level):
         raise Refused(1, 0)
 
 
-def ledger_total(ledger, beside=None):
-    """The total of a legal ledger; beside is the marks or errors lent with it."""
+def ledger_total(ledger, *beside):
+    """The total of a legal ledger; beside are the marks, errors or amounts lent with it."""
     if len(ledger) > MOST_LINES:
         raise Refused(2, 0)
-    if beside is not None and len(beside) != len(ledger):
+    if any(len(entries) != len(ledger) for entries in beside):
         raise Refused(13, 0)
     total = 0
     for line, value in enumerate(ledger):
@@ -366,6 +366,15 @@ def project(ledger, n, first_point, errors):
     ledger_total(ledger, errors)
     _, states, amounts = amounts_of_lines(ledger, n, first_point, errors)
     return projection_of(states, amounts, errors)
+
+
+@operation
+def project_lines(ledger, n, first_point, errors, amounts):
+    """The projection, and what each line projects, written into amounts."""
+    ledger_total(ledger, errors, amounts)
+    _, states, projected_amounts = amounts_of_lines(ledger, n, first_point, errors)
+    amounts[:] = projected_amounts
+    return projection_of(states, projected_amounts, errors)
 
 
 # ---- Steps 6 and 7: upper limit and verdict ----

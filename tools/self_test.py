@@ -4,7 +4,7 @@ import sys
 
 from reference import (
     DRAWN, EF, FULL, MOST_INTERVAL, NOT_DRAWN, RF, Content, Judgement, Projection, Refusal, Refused, Size, Split, Start,
-    chance_is_small, decode, desk, draw, encode, judge, project, read, size, split, split_intervals, start, write,
+    chance_is_small, decode, desk, draw, encode, judge, project, project_lines, read, size, split, split_intervals, start, write,
 )
 from seeded import Seeded
 
@@ -81,6 +81,18 @@ def practice_projection():
     same("projections over 40 starts", over_all_starts, 900)
     same("against", 40 * sum(PRACTICE_ERRORS), 880)
     same("all four at start 0", project(PRACTICE_LEDGER, 3, 0, PRACTICE_ERRORS), Refusal(15, 3))
+
+
+def practice_lines():
+    amounts = [9] * 4
+    same("all four at start 0, lines", project_lines(PRACTICE_LEDGER, 3, 0, PRACTICE_ERRORS, amounts), Refusal(15, 3))
+    same("refused lines", amounts, [9] * 4)
+    same("start 25, lines", project_lines(PRACTICE_LEDGER, 3, 25, PRACTICE_ERRORS, amounts), Projection(0, 30, 3))
+    same("amounts", amounts, [10, 0, 10, 10])
+    same("short of an amount", project_lines(PRACTICE_LEDGER, 3, 25, PRACTICE_ERRORS, amounts[:3]), Refusal(13, 0))
+    beside_full = [9] * 5
+    same("full lines", project_lines([500, 120, 0, 80, 300], 4, 79, [50, 0, 0, 8, 3], beside_full), Projection(53, 8, 1))
+    same("a full line projects its error", beside_full, [50, 0, 0, 8, 3])
 
 
 def practice_judgement():
@@ -185,7 +197,7 @@ def practice_all_starts():
 
 
 def run():
-    tests = [practice_size, practice_split, practice_draw, practice_projection, practice_judgement]
+    tests = [practice_size, practice_split, practice_draw, practice_projection, practice_lines, practice_judgement]
     tests += [practice_limits, practice_file, practice_all_starts, practice_factors]
     for test in tests:
         test()

@@ -1,20 +1,17 @@
 """The cases: legal ones, each refusal, and the edge values of every limit. A new case stands last, so that no number moves."""
 
-import math
-
 import reference
-import self_test
-from reference import EF, MOST_INTERVAL, MOST_TOTAL, MOST_VALUE, Refusal
+from reference import EF, MOST_TOTAL, Refusal
 from seeded import Seeded
+from vector_errors import long_errors, projected_cases, projected_edges
 from vector_files import read_cases, stored_reads, write_cases
 from vector_forms import MOST_WORD, Draw, Generated, Judge, Project, Size, Split, Start, equal, listed
+from vector_ledgers import BASE_INTERVAL, broken_ledgers, interval_of, legal_ledger, long_ledgers, random_draws, split_ledgers, starts_for
+from vector_lines import lines_cases
+from vector_wide import wide_cases
 
 # Ledgers of more lines than this are left out, for a program with less room.
 LARGEST_LEDGER = 100_000
-
-# The largest interval before document 02's K4; at 2^32 and above error × interval may pass 64 bits.
-BASE_INTERVAL = 4_000_000_000
-WIDE = 2**32
 
 
 # ---- Size ----
@@ -48,89 +45,6 @@ def size_edges(level):
             yield Size(level, total, te, max(0, ae))
 
 
-# ---- Ledgers ----
-
-
-def random_ledger(r):
-    """A small legal ledger."""
-    most = r.one_of([1, 5, 60, 1_000, 10**6, 10**9, BASE_INTERVAL])
-    if r.chance(50):
-        changes = tuple((place, r.between(0, 9 * most)) for place in range(0, r.between(0, 4)))
-        return generated_ledger(r, r.between(max(1, len(changes)), 60), most, changes)
-    values = [r.between(0, most) for _ in range(r.between(1, 9))]
-    for _ in range(r.between(0, 2)):
-        values[r.below(len(values))] = r.one_of([0, r.between(0, 20 * most), values[0]])
-    return listed(values)
-
-
-def generated_ledger(r, count, most, changes=()):
-    scale = max(1, most // 10_000)
-    low = r.one_of([0, 0, 1, min(most, 2**32 - 1)])
-    return Generated(count, r.below(2**32), low, min(most, 10_000), scale, changes)
-
-
-def legal_ledger(r):
-    """A ledger and its values, not all 0."""
-    while True:
-        ledger = random_ledger(r)
-        values = ledger.expand()
-        if sum(values) > 0:
-            return ledger, values
-
-
-def random_draws(r, ledger):
-    return r.one_of([1, 2, 3, r.between(1, 2 * len(ledger)), len(ledger), r.between(1, sum(ledger))])
-
-
-def long_ledgers(r):
-    """Long ledgers with a number of draws: small claims with large grants among them, or equal values."""
-    for count, n in (1_000, 116), (3_000, 150), (10_000, 400), (100_000, 2_000):
-        grants = tuple((r.below(count), r.between(10**6, 10**9)) for _ in range(40))
-        yield Generated(count, r.below(2**32), 100, 50_000, 7, grants), n
-    yield equal(2_000, 300), 1_999
-    yield equal(2_000, 300), 2_000
-    yield equal(2_000, 300), 2_001
-    yield Generated(2_000, 9, 0, 1, 1), 30
-
-
-def split_ledgers():
-    """Ledgers and draws at the edges of the split."""
-    yield [500, 120, 0, 80, 300], 4
-    yield [10], 2
-    yield [30, 30, 40, 20], 3
-    for n in 1, 2, 10, 11, 31, 32, 1_000, MOST_WORD:
-        yield [2**k for k in range(31)], n  # a round for nearly every line
-        yield [3**k for k in range(19, -1, -1)], n
-        yield [7] * 10, n
-        yield [0, 0, 1], n
-    for extra in -1, 0, 1:
-        yield [BASE_INTERVAL + extra], 1
-        yield [BASE_INTERVAL + extra, BASE_INTERVAL + extra], 2
-        yield [BASE_INTERVAL, BASE_INTERVAL + extra], 2
-        yield [1, BASE_INTERVAL + extra, 0, MOST_VALUE], 2
-        yield [2 * BASE_INTERVAL + extra, 0, 1], 2
-    yield [MOST_VALUE] * 100, 100
-    yield [MOST_VALUE] * 100, 250_000
-    yield [MOST_VALUE] * 100, MOST_WORD
-    yield [MOST_VALUE // 2_500] * 100, 100
-
-
-def broken_ledgers():
-    """Ledgers that 3, 4 or 5 refuse, or just do not."""
-    yield []
-    yield [0]
-    yield [0] * 7
-    for line in 0, 1, 4:
-        for value in MOST_VALUE, MOST_VALUE + 1, MOST_WORD:
-            yield [5] * line + [value] + [5] * (4 - line)
-    for last in 0, 1, MOST_VALUE, MOST_VALUE + 1, MOST_WORD:
-        yield [MOST_VALUE] * 100 + [last]
-    yield [MOST_VALUE] * 99 + [MOST_VALUE - 1, 1]
-    yield [MOST_VALUE] * 99 + [MOST_VALUE - 1, 2]
-    yield [MOST_VALUE] * 100 + [0, 0, 1, MOST_VALUE + 1]
-    yield [MOST_VALUE + 1, MOST_WORD]
-
-
 # ---- Split and draw ----
 
 
@@ -150,19 +64,6 @@ def split_cases(r):
         ledger, values = legal_ledger(r)
         lengths = [0, len(values) - 1, len(values) + 1, 2 * len(values)]
         yield Split(ledger, r.one_of([0, 1, 5, MOST_WORD]), r.one_of([len(values), *lengths]))
-
-
-def interval_of(values, n):
-    """The final interval, or 0 where the split is refused."""
-    answer = reference.split(values, n, bytearray(len(values)))
-    return 0 if isinstance(answer, Refusal) else answer.interval
-
-
-def starts_for(r, interval):
-    """A legal start, mostly."""
-    if interval == 0:
-        return r.one_of([0, 0, 0, 1])
-    return r.one_of([0, interval - 1, r.below(interval), r.below(interval), r.below(interval)])
 
 
 def draw_cases(r):
@@ -212,78 +113,7 @@ def start_cases(r):
         yield Start(interval, listed(rejected + words))
 
 
-# ---- Projection ----
-
-
-def errors_found(r, values, n, first_point, share=60):
-    """Errors on some of the full and drawn lines."""
-    marks = bytearray(len(values))
-    reference.draw(values, n, first_point, marks)
-    found = [0] * len(values)
-    for line, mark in enumerate(marks):
-        if mark and r.chance(share):
-            found[line] = r.one_of([values[line], r.between(0, values[line]), min(1, values[line])])
-    return found, marks
-
-
-def spoiled(r, values, errors, marks):
-    """Errors that 14, 15 or both refuse, as far as the lines allow."""
-    errors, ways = list(errors), r.one_of([[14], [15], [15], [14, 15]])
-    not_drawn = [line for line, mark in enumerate(marks) if mark == 0 and values[line] > 0]
-    if 14 in ways or not not_drawn:
-        line = r.below(len(values))
-        errors[line] = r.one_of([values[line] + 1, MOST_WORD])
-    if 15 in ways and not_drawn:
-        line = r.one_of(not_drawn)
-        errors[line] = r.one_of([1, values[line]])
-    return errors
-
-
-def projected_cases(r, many, few):
-    """Ledger, errors, n, start: legal ones, then some that are refused."""
-    for _ in range(many):
-        ledger, values = legal_ledger(r)
-        n = random_draws(r, values)
-        first_point = starts_for(r, interval_of(values, n))
-        yield ledger, errors_found(r, values, n, first_point)[0], n, first_point
-    for _ in range(few):
-        ledger, values = legal_ledger(r)
-        n = r.one_of([1, 2, 3, random_draws(r, values)])
-        first_point = starts_for(r, interval_of(values, n))
-        yield ledger, spoiled(r, values, *errors_found(r, values, n, first_point)), n, first_point
-    for _ in range(few // 3):
-        ledger, values = legal_ledger(r)
-        n, length = r.one_of([0, 2, MOST_WORD]), r.one_of([0, len(values), len(values) + 1])
-        yield ledger, [MOST_WORD] * length, n, r.one_of([0, interval_of(values, n), MOST_WORD])
-
-
-def projected_edges(r):
-    """The practice ledger at every start, the edges of the split, and broken ledgers."""
-    for first_point in range(41):
-        errors = self_test.errors_entered([30, 30, 40, 20], 3, first_point, [7, 0, 10, 5])
-        yield listed([30, 30, 40, 20]), errors, 3, first_point
-    yield listed([30, 30, 40, 20]), [7, 0, 10, 5], 3, 0
-    for values, n in split_ledgers():
-        for first_point in sorted({0, max(1, interval_of(values, n)) - 1}):
-            yield listed(values), errors_found(r, values, n, first_point, 90)[0], n, first_point
-    for values in broken_ledgers():
-        yield listed(values), [MOST_WORD] * len(values), 0, 7
-        yield listed(values), [0] * (len(values) + 1), 3, 0
-    whole = [BASE_INTERVAL, BASE_INTERVAL - 1, 1, BASE_INTERVAL]
-    yield listed(whole), whole, 3, BASE_INTERVAL - 1
-    yield listed(whole[:2] + whole[3:]), whole[:2] + whole[3:], 3, 0
-
-
-def long_errors(r):
-    """Long ledgers with few errors, and with an error on nearly every line."""
-    for ledger, n in long_ledgers(r):
-        values = ledger.expand()
-        first_point = r.below(max(1, interval_of(values, n)))
-        for share in 1, 5, 50 if ledger.count == 1_000 else 3:
-            yield ledger, listed(errors_found(r, values, n, first_point, share)[0]), n, first_point
-    for n in 1_999, 2_000, 2_001:
-        for errors in Generated(2_000, 4, 0, 300, 1), equal(2_000, 300), equal(2_000, 1, ((1_999, 301),)):
-            yield equal(2_000, 300), errors, n, 0
+# ---- Projection and judgement ----
 
 
 def project_cases(r):
@@ -293,9 +123,6 @@ def project_cases(r):
         yield Project(ledger, listed(errors), n, first_point)
     for ledger, errors, n, first_point in projected_cases(r, 450, 150):
         yield Project(ledger, listed(errors), n, first_point)
-
-
-# ---- Judgement ----
 
 
 def every_factor():
@@ -351,7 +178,7 @@ def judge_cases(r):
         yield Judge(r.one_of([50, 99, 100]), ledger, errors, r.one_of([0, 1, 9]), r.one_of([0, MOST_WORD]), te)
 
 
-# ---- The largest ledgers ----
+# ---- All of them ----
 
 
 def largest_cases():
@@ -367,64 +194,10 @@ def largest_cases():
             yield Draw(ledger, 3_000, 12_345, count)
 
 
-# ---- Wide intervals ----
-
-
-def wide_ledgers(r):
-    """A ledger whose only draw has this interval, its first line's value and an error there: products of 65 to 94 bits, whose amounts are even, one above and one below."""
-    for bits in range(65, 95):
-        for _ in range(3):
-            interval = r.between(max(WIDE, 2 ** (bits - 1) // MOST_VALUE + 1), MOST_INTERVAL)
-            value = r.between(min(interval, MOST_VALUE, 2 ** (bits - 1) // interval + 1), min(interval, MOST_VALUE))
-            error = min(value, r.between(2 ** (bits - 1) // interval + 1, 2**bits // interval))
-            while math.gcd(error, value) > 1:
-                error -= 1
-            for left in 0, 1, value - 1:
-                even = interval - interval % value + left * pow(error, -1, value) % value if value > 1 else interval
-                if value <= even <= MOST_INTERVAL:
-                    yield value, error, even
-    for interval in BASE_INTERVAL + 1, WIDE - 1, WIDE, WIDE + 1, 10**11, MOST_VALUE, MOST_INTERVAL - 1, MOST_INTERVAL:
-        for value in 1, interval // 3, min(interval, MOST_VALUE) - 1, min(interval, MOST_VALUE):
-            for error in sorted({1, (value + 1) // 2, value - 1, value}):
-                if 0 <= error <= value <= MOST_VALUE:
-                    yield value, error, interval
-
-
-def filled(value, total):
-    """A ledger of this total that begins with this value."""
-    values = [value]
-    while total > sum(values):
-        values.append(min(MOST_VALUE, total - sum(values)))
-    return values
-
-
-def wide_cases(r):
-    """Intervals from 4,000,000,001 to 10^15."""
-    for value, error, interval in wide_ledgers(r):
-        values = filled(value, interval)
-        yield Project(listed(values), listed([error] + [0] * (len(values) - 1)), 1, r.one_of([0, value - 1]))
-        if r.chance(20):
-            yield Judge(r.one_of(list(EF)), listed(values), listed([error] + [0] * (len(values) - 1)), 1, 0, r.between(1, interval))
-            yield Split(listed(values), 1, len(values))
-            yield Draw(listed(values), 1, r.below(interval), len(values))
-    for interval in 2**49, 2**49 + 1, MOST_INTERVAL - 1, MOST_INTERVAL, MOST_INTERVAL + 1:
-        for word in 0, interval - 1, interval, 2**50 - 1, 2**50 + interval - 1:
-            yield Start(interval, listed([word]))
-            yield Start(interval, listed([MOST_WORD, word]))
-    for _ in range(100):
-        count = r.between(1, 40)
-        values = [r.between(0, MOST_VALUE) for _ in range(count)] + [1]
-        n = r.between(1, count)
-        first_point = starts_for(r, interval_of(values, n))
-        errors = errors_found(r, values, n, first_point)[0]
-        yield Project(listed(values), listed(errors), n, first_point)
-        yield Judge(r.one_of(list(EF)), listed(values), listed(errors), n, first_point, r.between(1, sum(values)))
-
-
 def every_case():
     r = Seeded(20)
     ways = [size_cases(r), split_cases(r), start_cases(r), draw_cases(r), project_cases(r), judge_cases(r)]
-    ways += [read_cases(r), write_cases(r), stored_reads(), largest_cases(), wide_cases(Seeded(21))]
+    ways += [read_cases(r), write_cases(r), stored_reads(), largest_cases(), wide_cases(Seeded(21)), lines_cases(Seeded(22))]
     for way in ways:
         for case in way:
             if not hasattr(case, "ledger") or case.ledger.count <= LARGEST_LEDGER:

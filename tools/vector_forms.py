@@ -1,7 +1,4 @@
-"""The forms in which a case is given: lists, bytes, and one class for each operation.
-
-Each case packs itself, as docs/VECTORS.md describes, and runs itself through the reference.
-"""
+"""The forms in which a case is given (docs/VECTORS.md): lists, bytes, and one class for each operation."""
 
 import collections
 import struct
@@ -178,6 +175,23 @@ class Project:
     def run(self, latest):
         ledger, errors = self.ledger.expand(), self.errors.expand()
         return reference.project(ledger, self.n, self.start, errors), [ledger, errors]
+
+
+@dataclass
+class Lines:
+    ledger: object
+    errors: object
+    n: int
+    start: int
+    amounts: int
+
+    def pack(self):
+        room = room_of_numbers(self.amounts)
+        return fields(9, numbers=(self.n, self.start), ledger=self.ledger, errors=self.errors, words=room)
+
+    def run(self, latest):
+        ledger, errors, amounts = self.ledger.expand(), self.errors.expand(), room_of_numbers(self.amounts).expand()
+        return reference.project_lines(ledger, self.n, self.start, errors, amounts), [ledger, errors, amounts]
 
 
 @dataclass

@@ -205,6 +205,44 @@ static void project_cases(void)
     SAME(r, "projection: 5 without lines", 5, 0, 0, 0, 0);
 }
 
+static void lines_cases(void)
+{
+    static const uint64_t line[] = {UINT64_C(100000000000)}, beside_full[] = {50, 0, 0, 8, 3}, amounts[] = {10, 0, 10, 10}, above[] = {7, 31, 10, 5};
+    struct mus_project_result r;
+    fill();
+    r = mus_project_lines(practice, 4, 3, 25, found, 4, values, 4);
+    SAME(r, "lines from 25", 0, 0, 0, 30, 3);
+    expect(memcmp(values, amounts, sizeof amounts) == 0 && memcmp(values + 4, values_before + 4, sizeof values - 32) == 0, "amounts from 25");
+    fill();
+    r = mus_project_lines(rounds, 5, 4, 79, beside_full, 5, values, 5);
+    SAME(r, "lines beside full ones", 0, 0, 53, 8, 1);
+    expect(memcmp(values, beside_full, sizeof beside_full) == 0, "amounts beside full lines");
+    fill();
+    r = mus_project_lines(line, 1, 1, 99999999999, line, 1, values, 1);
+    SAME(r, "lines where the product has 74 bits", 0, 0, 0, 100000000000, 1);
+    expect(values[0] == line[0] && values[1] == values_before[1], "the amount where the product has 74 bits");
+    fill();
+    r = mus_project_lines(practice, 4, 3, 0, found, 4, values, 4);
+    SAME(r, "lines: 15", 15, 3, 0, 0, 0);
+    r = mus_project_lines(practice, 4, 3, 25, values, 4, words, 4);
+    SAME(r, "lines: 15 on a line before the last", 15, 1, 0, 0, 0);
+    r = mus_project_lines(practice, 4, 3, 25, above, 4, values, 4);
+    SAME(r, "lines: 14", 14, 1, 0, 0, 0);
+    r = mus_project_lines(practice, 4, 3, 40, found, 4, values, 4);
+    SAME(r, "lines: 11", 11, 0, 0, 0, 0);
+    r = mus_project_lines(practice, 4, 0, 0, found, 4, values, 4);
+    SAME(r, "lines: 8", 8, 0, 0, 0, 0);
+    r = mus_project_lines(practice, 4, 3, 25, found, 4, values, 3);
+    SAME(r, "lines: 13 for the amounts", 13, 0, 0, 0, 0);
+    r = mus_project_lines(practice, 4, 3, 25, found, 3, values, 4);
+    SAME(r, "lines: 13 for the errors", 13, 0, 0, 0, 0);
+    r = mus_project_lines(practice, 4, 3, 25, found, 4, NULL, 0);
+    SAME(r, "lines: 13 without amounts", 13, 0, 0, 0, 0);
+    r = mus_project_lines(NULL, 0, 3, 0, NULL, 0, NULL, 0);
+    SAME(r, "lines: 5 without lines", 5, 0, 0, 0, 0);
+    unchanged("refused lines change nothing");
+}
+
 static void judge_cases(void)
 {
     static uint64_t tens[64], ones[64];
@@ -335,6 +373,7 @@ int main(int argc, char **argv)
     start_cases();
     draw_cases();
     project_cases();
+    lines_cases();
     judge_cases();
     read_cases();
     write_cases();

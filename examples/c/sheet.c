@@ -22,7 +22,7 @@ int main(void)
     const uint64_t words[] = {63, 25};               /* random words */
     const uint8_t level = 90;
     const uint64_t te = 100, ae = 0;
-    uint64_t total = 0;
+    uint64_t total = 0, amounts[LINES];
     uint8_t marks[LINES];
 
     for (size_t i = 0; i < LINES; i++) total += ledger[i];
@@ -39,7 +39,7 @@ int main(void)
     struct mus_draw_result draw = mus_draw(ledger, LINES, plan.draws, first.start, marks, LINES);
     if (refused(draw.refusal, draw.place)) return 1;
 
-    struct mus_project_result projection = mus_project(ledger, LINES, plan.draws, first.start, errors, LINES);
+    struct mus_project_result projection = mus_project_lines(ledger, LINES, plan.draws, first.start, errors, LINES, amounts, LINES);
     if (refused(projection.refusal, projection.place)) return 1;
 
     struct mus_judge_result judgement = mus_judge(level, ledger, LINES, plan.draws, first.start, errors, LINES, te);
@@ -49,9 +49,7 @@ int main(void)
     printf("split %llu %llu %llu %llu %llu\n", (whole) split.interval, (whole) split.draws_left, (whole) split.sampled_total, (whole) split.full_lines, (whole) split.full_total);
     printf("start %llu %llu\n", (whole) first.start, (whole) first.words);
     for (size_t i = 0; i < LINES; i++) {
-        /* a full line counts with its error, a drawn one with error x interval / value, rounded up */
-        if (marks[i] == MUS_FULL) printf("full %zu %llu %llu %llu\n", i, (whole) ledger[i], (whole) errors[i], (whole) errors[i]);
-        if (marks[i] == MUS_DRAWN) printf("drawn %zu %llu %llu %llu\n", i, (whole) ledger[i], (whole) errors[i], (whole) ((errors[i] * split.interval + ledger[i] - 1) / ledger[i]));
+        if (marks[i] != MUS_NOT_DRAWN) printf("%s %zu %llu %llu %llu\n", marks[i] == MUS_FULL ? "full" : "drawn", i, (whole) ledger[i], (whole) errors[i], (whole) amounts[i]);
     }
     printf("project %llu %llu %llu\n", (whole) projection.full, (whole) projection.sampled, (whole) projection.m);
     printf("judge %llu %llu %s\n", (whole) judgement.precision, (whole) judgement.upper_limit, verdicts[judgement.verdict]);

@@ -203,6 +203,23 @@ static void project_case(void)
     say_list(errors, errors_length);
 }
 
+/* The words are the room for the amounts. */
+static void lines_case(void)
+{
+    struct mus_project_result r = mus_project_lines(ledger, ledger_length, first, second, errors, errors_length, words, words_length);
+    struct mus_project_result whole = mus_project(ledger, ledger_length, first, second, errors, errors_length);
+    uint64_t added = 0;
+    for (size_t i = 0; i < words_length; i++) added += words[i];
+    if (words_length == ledger_length) expect(memcmp(&r, &whole, sizeof r) == 0, "the lines' projection is the projection");
+    if (r.refusal == MUS_ACCEPTED) expect(added == r.full + r.sampled, "the amounts add to both sums");
+    say(" lines");
+    say_answer(r.refusal, r.place, &r.full, 3);
+    say(" lent");
+    say_list(ledger, ledger_length);
+    say_list(errors, errors_length);
+    say_list(words, words_length);
+}
+
 static void judge_case(void)
 {
     static const char *const verdicts[] = {" below", " inconclusive", " above"};
@@ -263,7 +280,7 @@ static int same_line(void)
 
 static void run_case(uint64_t place)
 {
-    static void (*const operations[])(void) = {size_case, split_case, start_case, draw_case, project_case, judge_case, read_case, write_case};
+    static void (*const operations[])(void) = {size_case, split_case, start_case, draw_case, project_case, judge_case, read_case, write_case, lines_case};
     char what[40];
     uint64_t operation = number(1);
     line_length = (size_t) snprintf(line, sizeof line, "%llu", (unsigned long long) place);

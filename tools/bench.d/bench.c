@@ -11,7 +11,7 @@
 
 #define MOST 1000000
 
-static uint64_t ledger[MOST], errors[MOST], words[64], values_room[2048], errors_room[2048], words_room[64];
+static uint64_t ledger[MOST], errors[MOST], amounts[MOST], words[64], values_room[2048], errors_room[2048], words_room[64];
 static uint8_t marks[MOST], file[MUS_LONGEST_FILE];
 static size_t lines;
 static uint64_t draws, start, te, seed = 1;
@@ -102,6 +102,7 @@ static void call_judging(void) { kept = mus_split(ledger, lines, 0, marks, lines
 static void call_split(void) { kept = mus_split(ledger, lines, draws, marks, lines).interval; }
 static void call_draw(void) { kept = mus_draw(ledger, lines, draws, start, marks, lines).drawn; }
 static void call_project(void) { kept = mus_project(ledger, lines, draws, start, errors, lines).sampled; }
+static void call_lines(void) { kept = mus_project_lines(ledger, lines, draws, start, errors, lines, amounts, lines).sampled; }
 static void call_judge(void) { kept = mus_judge(95, ledger, lines, draws, start, errors, lines, te).precision; }
 static void call_size(void) { kept = mus_size(95, 1000000, 20000, 4000).draws; }
 static void call_start(void) { kept = mus_start(40, words, 64).start; }
@@ -134,6 +135,7 @@ static const struct row {
     {"draw", plain_ledger, call_draw},
     {"project", set_project, call_project},
     {"project-wide", set_project_wide, call_project},
+    {"lines", set_project, call_lines},
     {"judge", set_project, call_judge},
     {"judge-63", set_most_errors, call_judge},
     {"read", set_read, call_read},

@@ -1,5 +1,6 @@
 // Every operation, called: its answer in the one shape that the test programs print.
 use answers::Answer;
+use results::ProjectResult;
 use results::SplitResult;
 
 // An answer without a verdict.
@@ -49,9 +50,22 @@ pub fn draw(ledger: &[u64], n: u64, start: u64, marks: &mut [u8]) -> Answer {
     answer(r.refusal, r.place, [r.drawn, 0, 0, 0, 0], 1)
 }
 
-pub fn project(ledger: &[u64], n: u64, start: u64, errors: &[u64]) -> Answer {
-    let r = results::steps::of_project(project::project(ledger, n, start, errors));
+fn of_project(r: ProjectResult) -> Answer {
     answer(r.refusal, r.place, [r.full, r.sampled, r.m, 0, 0], 3)
+}
+
+pub fn project(ledger: &[u64], n: u64, start: u64, errors: &[u64]) -> Answer {
+    of_project(results::steps::of_project(project::project(ledger, n, start, errors)))
+}
+
+pub fn project_lines(
+    ledger: &[u64],
+    n: u64,
+    start: u64,
+    errors: &[u64],
+    amounts: &mut [u64],
+) -> Answer {
+    of_project(results::steps::of_project(lines::project_lines(ledger, n, start, errors, amounts)))
 }
 
 pub fn judge(level: u8, ledger: &[u64], n: u64, start: u64, errors: &[u64], te: u64) -> Answer {

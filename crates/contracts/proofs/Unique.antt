@@ -16,6 +16,7 @@ use Rattle.start.specs.declared.StartAnswer.{StartAnswer}
 use Rattle.start.specs.declared.StartAnswer.the-variants as start
 use Rattle.draw.specs.declared.DrawAnswer.{DrawAnswer}
 use Rattle.draw.specs.declared.DrawAnswer.the-variants as draw
+use Rattle.project.specs.declared.Projection.{Projection}
 use Rattle.project.specs.declared.ProjectAnswer.{ProjectAnswer}
 use Rattle.project.specs.declared.ProjectAnswer.the-variants as project
 use Rattle.judge.specs.declared.JudgeAnswer.{JudgeAnswer}
@@ -28,6 +29,7 @@ use Rattle.split.specs.Split.{splitSays, SplitPromise}
 use Rattle.start.specs.Start.{startSays, StartPromise}
 use Rattle.draw.specs.Draw.{drawSays, DrawPromise}
 use Rattle.project.specs.Project.{projectSays, ProjectPromise}
+use Rattle.lines.specs.Each.{LinesPromise}
 use Rattle.judge.specs.Judge.{judgeSays, JudgePromise}
 use Rattle.workfile.specs.declared.Plan.{Plan}
 use Rattle.workfile.specs.Promises.{ReadPromise, WritePromise}
@@ -79,6 +81,10 @@ judge-made (judge.Refused why) = bad why
 split-answer : {o : Outcome Figures} (r s : SplitAnswer) → splitSays r ≡ o → splitSays s ≡ o → r ≡ s
 split-answer = one-answer splitSays split.Split split.Refused (λ a. refl) (λ why. refl) split-made
 
+-- and of the projection
+project-answer : {o : Outcome Projection} (r s : ProjectAnswer) → projectSays r ≡ o → projectSays s ≡ o → r ≡ s
+project-answer = one-answer projectSays project.Projected project.Refused (λ a. refl) (λ why. refl) project-made
+
 -- the operations that C has too
 size-once : (percent total te ae : ℕ) → One (SizePromise percent total te ae)
 size-once _ _ _ _ r s p q = one-answer sizeSays size.Draws size.Refused (λ a. refl) (λ why. refl) size-made r s (p .answer) (q .answer)
@@ -94,7 +100,10 @@ draw-once _ _ _ _ r s _ _ p q =
     (one-answer drawSays draw.Drawn draw.Refused (λ a. refl) (λ why. refl) draw-made r s (p .answer) (q .answer), p .marks-left ∙ sym (q .marks-left))
 
 project-once : (ledger : List ℕ) (n start : ℕ) (errors : List ℕ) → One (ProjectPromise ledger n start errors)
-project-once _ _ _ _ r s p q = one-answer projectSays project.Projected project.Refused (λ a. refl) (λ why. refl) project-made r s (p .answer) (q .answer)
+project-once _ _ _ _ r s p q = project-answer r s (p .answer) (q .answer)
+
+lines-once : (ledger : List ℕ) (n start : ℕ) (errors amounts : List ℕ) → OneWith (LinesPromise ledger n start errors amounts)
+lines-once _ _ _ _ _ r s _ _ p q = (project-answer r s (p .answer) (q .answer), p .amounts-left ∙ sym (q .amounts-left))
 
 judge-once : (percent : ℕ) (ledger : List ℕ) (n start : ℕ) (errors : List ℕ) (te : ℕ) → One (JudgePromise percent ledger n start errors te)
 judge-once _ _ _ _ _ _ r s p q = one-answer judgeSays judge.Judged judge.Refused (λ a. refl) (λ why. refl) judge-made r s (p .answer) (q .answer)
@@ -138,6 +147,7 @@ no-freedom =
       start = start-once;
       draw = draw-once;
       project = project-once;
+      project-lines = lines-once;
       judge = judge-once;
       steps = λ _ _ _ _ _ _ p q. steps-once p q;
       read = reads-once;
@@ -153,6 +163,7 @@ no-freedom =
       mus-start = λ J words. sees (start-once J words);
       mus-draw = λ ledger n start marks. sees-with (draw-once ledger n start marks);
       mus-project = λ ledger n start errors. sees (project-once ledger n start errors);
+      mus-project-lines = λ ledger n start errors amounts. sees-with (lines-once ledger n start errors amounts);
       mus-judge = λ percent ledger n start errors te. sees (judge-once percent ledger n start errors te);
       mus-read = λ file words values errors. sees-with (reads-once file words values errors);
       mus-write = λ plan words values errors file. sees-with (writes-once plan words values errors file);

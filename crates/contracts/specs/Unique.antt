@@ -13,6 +13,7 @@ use Rattle.split.specs.Start.{FiguresForPromise}
 use Rattle.start.specs.Start.{startSays, StartPromise}
 use Rattle.draw.specs.Draw.{drawSays, DrawPromise}
 use Rattle.project.specs.Project.{projectSays, ProjectPromise}
+use Rattle.lines.specs.Each.{LinesPromise}
 use Rattle.judge.specs.Judge.{judgeSays, JudgePromise}
 use Rattle.steps.specs.Steps.{StepsPromise}
 use Rattle.workfile.specs.declared.Plan.{Plan}
@@ -49,6 +50,7 @@ pub record NoFreedom : Type 0 where
   pub start : (J : ℕ) (words : List ℕ) → One (StartPromise J words)
   pub draw : (ledger : List ℕ) (n start : ℕ) (marks : List ℕ) → OneWith (DrawPromise ledger n start marks)
   pub project : (ledger : List ℕ) (n start : ℕ) (errors : List ℕ) → One (ProjectPromise ledger n start errors)
+  pub project-lines : (ledger : List ℕ) (n start : ℕ) (errors amounts : List ℕ) → OneWith (LinesPromise ledger n start errors amounts)
   pub judge : (percent : ℕ) (ledger : List ℕ) (n start : ℕ) (errors : List ℕ) (te : ℕ) → One (JudgePromise percent ledger n start errors te)
   pub steps : (plan : Plan) (words ledger errors : List ℕ) → One (StepsPromise plan words ledger errors)
   -- the working file, its sheet, and the text
@@ -67,6 +69,8 @@ pub record NoFreedom : Type 0 where
   pub mus-start : (J : ℕ) (words : List ℕ) → One (Sees startSeen startSays (StartPromise J words))
   pub mus-draw : (ledger : List ℕ) (n start : ℕ) (marks : List ℕ) → OneWith (λ r b. Sees drawSeen drawSays (λ a. DrawPromise ledger n start marks a b) r)
   pub mus-project : (ledger : List ℕ) (n start : ℕ) (errors : List ℕ) → One (Sees projectSeen projectSays (ProjectPromise ledger n start errors))
+  pub mus-project-lines : (ledger : List ℕ) (n start : ℕ) (errors amounts : List ℕ)
+      → OneWith (λ r b. Sees projectSeen projectSays (λ a. LinesPromise ledger n start errors amounts a b) r)
   pub mus-judge : (percent : ℕ) (ledger : List ℕ) (n start : ℕ) (errors : List ℕ) (te : ℕ)
       → One (Sees judgeSeen judgeSays (JudgePromise percent ledger n start errors te))
   pub mus-read : (file words values errors : List ℕ)

@@ -45,16 +45,27 @@ fn words_at(input: &[u8]) -> usize {
     lists::end(input, errors_at(input))
 }
 
-// The lists, one after the other as they stand in the case: ledger, errors, words.
-pub fn lay(input: &[u8], numbers: &mut [u64]) -> Lists {
+// The ledger and the errors, one after the other as they stand in the case.
+pub fn lay_ledger(input: &[u8], numbers: &mut [u64]) -> Lists {
     let ledger = lists::lay(input, LISTS, numbers, 0);
     let errors = lists::lay(input, errors_at(input), numbers, ledger);
     let before = ledger + errors;
-    let words = lists::lay(input, words_at(input), numbers, before);
     Lists {
         ledger,
         errors,
         before,
+        words: 0,
+    }
+}
+
+// And the words after them.
+pub fn lay(input: &[u8], numbers: &mut [u64]) -> Lists {
+    let laid = lay_ledger(input, numbers);
+    let words = lists::lay(input, words_at(input), numbers, laid.before);
+    Lists {
+        ledger: laid.ledger,
+        errors: laid.errors,
+        before: laid.before,
         words,
     }
 }

@@ -22,6 +22,7 @@ fn put_name(pen: Pen, page: &mut [u8], operation: u8) -> Pen {
         1..=6 => put_step(pen, page, operation),
         7 => pen.text(page, b" read"),
         8 => pen.text(page, b" write"),
+        9 => pen.text(page, b" lines"),
         _ => pen.text(page, b" is of no operation"),
     }
 }
@@ -48,6 +49,7 @@ fn put_digests(pen: Pen, page: &mut [u8], operation: u8, d: Digests) -> Pen {
         3 => put_lent(pen, page, &[d.words]),
         5 | 6 => put_lent(pen, page, &[d.ledger, d.errors]),
         7 => put_lent(pen, page, &[d.bytes, d.words, d.ledger, d.errors]),
+        9 => put_lent(pen, page, &[d.ledger, d.errors, d.words]),
         _ => put_lent(pen, page, &[d.words, d.ledger, d.errors, d.bytes]),
     }
 }

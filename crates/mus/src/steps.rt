@@ -10,6 +10,7 @@ ghost use Rattle.split.specs.Split.{splitSays, SplitPromise};
 ghost use Rattle.start.specs.Start.{startSays, StartPromise};
 ghost use Rattle.draw.specs.Draw.{drawSays, DrawPromise};
 ghost use Rattle.project.specs.Project.{projectSays, ProjectPromise};
+ghost use Rattle.lines.specs.Each.{LinesPromise};
 ghost use Rattle.judge.specs.Judge.{judgeSays, JudgePromise};
 ghost use Rattle.results.specs.Seen.{Sees};
 ghost use Rattle.results.specs.Results.{sizeSeen, splitSeen, startSeen, drawSeen, projectSeen, judgeSeen};
@@ -52,6 +53,20 @@ pub extern "C" fn mus_project(ledger: &[u64], n: u64, start: u64, errors: &[u64]
     ensures { λ r. ⌜ Sees projectSeen projectSays (ProjectPromise (now (ledger .entry)) n start (now (errors .entry))) r ⌝ }
 {
     results::steps::of_project(project::project(ledger, n, start, errors))
+}
+
+// The projection of the errors, and what each line projects: its error where it is full, its amount where it is drawn, 0 elsewhere.
+#[no_mangle]
+pub extern "C" fn mus_project_lines(
+    ledger: &[u64],
+    n: u64,
+    start: u64,
+    errors: &[u64],
+    amounts: &mut [u64],
+) -> ProjectResult
+    ensures { λ r. ⌜ Sees projectSeen projectSays (λ a. LinesPromise (now (ledger .entry)) n start (now (errors .entry)) (now (amounts .entry)) a (now (amounts .exit))) r ⌝ }
+{
+    results::steps::of_project(lines::project_lines(ledger, n, start, errors, amounts))
 }
 
 // The judgement: the projection with the precision, the upper limit and the verdict.

@@ -1,5 +1,6 @@
 // Runs every operation on the cases of standard input and writes a line for each: the answer, and a digest of every lent list.
 // The form of the cases is told in docs/VECTORS.md. One case is held at a time.
+mod projected; // projected.rt: cases of the projected lines
 mod reads; // reads.rt: cases of a read
 mod steps; // steps.rt: cases of the other operations
 
@@ -13,6 +14,13 @@ fn numbers() -> [u64; 205_000]
     [0; 205_000]
 }
 
+// Room for the amounts of projected lines.
+fn amounts() -> [u64; 100_000]
+    ensures { λ r. ⌜ 100000 ≡ length r ⌝ }
+{
+    [0; 100_000]
+}
+
 // Room for marks, and for a file that is written.
 fn bytes() -> [u8; 100_000]
     ensures { λ r. ⌜ 100000 ≡ length r ⌝ }
@@ -20,17 +28,28 @@ fn bytes() -> [u8; 100_000]
     [0; 100_000]
 }
 
-// The next case, where there is one. 7 is a read.
-fn run_next(number: u64, input: &mut [u8], numbers: &mut [u64], room: &mut [u8]) -> bool {
+// The case of a number, by its operation.
+fn run(number: u64, case: &[u8], numbers: &mut [u64], amounts: &mut [u64], room: &mut [u8]) {
+    match feed::input::byte_at(case, 0) {
+        7 => reads::run(number, case, room),
+        9 => projected::run(number, case, numbers, amounts),
+        _ => steps::run(number, case, numbers, room),
+    }
+}
+
+// The next case, where there is one.
+fn run_next(
+    number: u64,
+    input: &mut [u8],
+    numbers: &mut [u64],
+    amounts: &mut [u64],
+    room: &mut [u8],
+) -> bool {
     let case = feed::cases::next(number, input);
     if case.len() == 0 {
         return false;
     }
-    if feed::input::byte_at(case, 0) == 7 {
-        reads::run(number, case, room);
-    } else {
-        steps::run(number, case, numbers, room);
-    }
+    run(number, case, numbers, amounts, room);
     true
 }
 
@@ -38,9 +57,12 @@ fn run_next(number: u64, input: &mut [u8], numbers: &mut [u64], room: &mut [u8])
 fn main() {
     let mut input = io::large_buffer();
     let mut numbers = numbers();
+    let mut amounts = amounts();
     let mut room = bytes();
     let mut number: u64 = 0;
-    while number < 0xFFFF_FFFF_FFFF_FFFF && run_next(number, &mut input, &mut numbers, &mut room) {
+    while number < 0xFFFF_FFFF_FFFF_FFFF
+        && run_next(number, &mut input, &mut numbers, &mut amounts, &mut room)
+    {
         number += 1;
     }
 }

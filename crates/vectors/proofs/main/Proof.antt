@@ -7,10 +7,10 @@ use Rattle.vectors.proofs.main.Statement.{statement}
 use Rattle.vectors.proofs.main.Tie as tie
 
 abbrev Inv-loop : tie.InvT-loop
-Inv-loop input₀ numbers₀ room₀ number₀ input numbers room number = (65536 ≡ length input) × (205000 ≡ length numbers) × (100000 ≡ length room)
+Inv-loop input₀ numbers₀ amounts₀ room₀ number₀ input numbers amounts room number = (65536 ≡ length input) × (205000 ≡ length numbers) × (100000 ≡ length amounts) × (100000 ≡ length room)
 
 abbrev μ-loop : tie.MeasureT-loop
-μ-loop input₀ numbers₀ room₀ number₀ input numbers room number = 18446744073709551615 - number
+μ-loop input₀ numbers₀ amounts₀ room₀ number₀ input numbers amounts room number = 18446744073709551615 - number
 
 pub main-spec : {M : Type 1} → statement M
 main-spec =
@@ -21,6 +21,8 @@ main-spec =
     (λ c κs. search needs)
     (λ c κs. search needs)
     (λ c κs. search needs)
+    (λ c κs. search needs)
+    (λ c. search needs)
     (λ c. search needs)
     (λ c. search needs)
     (λ c. search needs)

@@ -1,0 +1,21 @@
+// A case of the projected lines: the amounts are the list in the place of the words, lent in a buffer of their own.
+use feed::fields;
+use feed::fields::Case;
+use feed::lines;
+use parts::part;
+
+fn call(number: u64, case: Case, ledger: &[u64], errors: &[u64], amounts: &mut [u64]) {
+    let answer = calls::project_lines(ledger, case.first, case.second, errors, amounts);
+    lines::tell(number, 9, answer, &[], ledger, errors, amounts);
+}
+
+pub fn run(number: u64, input: &[u8], numbers: &mut [u64], room: &mut [u64]) {
+    let lists = fields::lay_ledger(input, numbers);
+    call(
+        number,
+        fields::numbers(input),
+        part(numbers, 0, lists.ledger),
+        part(numbers, lists.ledger, lists.errors),
+        fields::words(input, room),
+    );
+}

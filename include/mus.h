@@ -61,7 +61,8 @@ enum mus_refusal {
 /* What a mark says of its line. */
 enum mus_mark { MUS_NOT_DRAWN = 0, MUS_DRAWN = 1, MUS_FULL = 2 };
 
-/* What a judgement says. 0 is none of them: the call was refused. */
+/* What a judgement says: above where the projected error exceeds TE, below only where the upper limit is less than TE, and otherwise
+ * inconclusive; so a limit equal to TE is inconclusive. 0 is none of them: the call was refused. */
 enum mus_verdict { MUS_BELOW = 1, MUS_INCONCLUSIVE = 2, MUS_ABOVE = 3 };
 
 struct mus_size_result {

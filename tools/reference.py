@@ -392,7 +392,7 @@ def precision_of(level, interval, amounts):
 def verdict_of(projected_error, upper_limit, te):
     if projected_error > te:
         return "above"
-    if upper_limit <= te:
+    if upper_limit < te:
         return "below"
     return "inconclusive"
 

@@ -99,6 +99,8 @@ def practice_judgement():
     by_level = {90: Judgement(0, 30, 3, 107, 137, "inconclusive"), 50: Judgement(0, 30, 3, 28, 58, "below")}
     for level, expected in by_level.items():
         same(f"judge {level}", judge(level, PRACTICE_LEDGER, 3, 25, PRACTICE_ERRORS, 100), expected)
+    for te, verdict in (59, "below"), (58, "inconclusive"), (30, "inconclusive"), (29, "above"):
+        same(f"TE {te}", judge(50, PRACTICE_LEDGER, 3, 25, PRACTICE_ERRORS, te), Judgement(0, 30, 3, 28, 58, verdict))
 
 
 def practice_limits():

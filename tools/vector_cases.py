@@ -1,13 +1,13 @@
 """The cases: legal ones, each refusal, and the edge values of every limit. A new case stands last, so that no number moves."""
 
-import reference
-from reference import EF, MOST_TOTAL, Refusal
+from reference import EF, MOST_TOTAL
 from seeded import Seeded
 from vector_errors import long_errors, projected_cases, projected_edges
 from vector_files import read_cases, stored_reads, write_cases
 from vector_forms import MOST_WORD, Draw, Generated, Judge, Project, Size, Split, Start, equal, listed
 from vector_ledgers import BASE_INTERVAL, broken_ledgers, interval_of, legal_ledger, long_ledgers, random_draws, split_ledgers, starts_for
 from vector_lines import lines_cases
+from vector_verdicts import verdict_cases, verdict_edges
 from vector_wide import wide_cases
 
 # Ledgers of more lines than this are left out, for a program with less room.
@@ -133,18 +133,6 @@ def every_factor():
             yield Judge(level, equal(m + 1, 1_000), errors, m + 1, level, 500 * (m + 1))
 
 
-def verdict_edges(level, ledger, errors, n, first_point):
-    """TE at the projected error and at the upper limit, and one to each side."""
-    values = ledger.expand()
-    answer = reference.judge(level, values, n, first_point, errors, sum(values))
-    if isinstance(answer, Refusal):
-        yield sum(values)
-        return
-    projected_error = answer.full_sum + answer.sampled_sum
-    for edge in projected_error, answer.upper_limit:
-        yield from (te for te in (edge - 1, edge, edge + 1) if te >= 0)
-
-
 def judge_edges(r):
     for level in range(256):
         yield Judge(level, listed([30, 30, 40, 20]), listed([7, 0, 10, 5]), 3, 25, 100)
@@ -198,6 +186,7 @@ def every_case():
     r = Seeded(20)
     ways = [size_cases(r), split_cases(r), start_cases(r), draw_cases(r), project_cases(r), judge_cases(r)]
     ways += [read_cases(r), write_cases(r), stored_reads(), largest_cases(), wide_cases(Seeded(21)), lines_cases(Seeded(22))]
+    ways += [verdict_cases()]
     for way in ways:
         for case in way:
             if not hasattr(case, "ledger") or case.ledger.count <= LARGEST_LEDGER:

@@ -250,6 +250,12 @@ static void judge_cases(void)
     SAME(r, "judgement at 90", 0, 0, 0, 30, 3, 107, 137, MUS_INCONCLUSIVE);
     r = mus_judge(50, practice, 4, 3, 25, found, 4, 100);
     SAME(r, "judgement at 50", 0, 0, 0, 30, 3, 28, 58, MUS_BELOW);
+    r = mus_judge(50, practice, 4, 3, 25, found, 4, 59);
+    SAME(r, "a limit one cent under TE", 0, 0, 0, 30, 3, 28, 58, MUS_BELOW);
+    r = mus_judge(50, practice, 4, 3, 25, found, 4, 58);
+    SAME(r, "a limit equal to TE", 0, 0, 0, 30, 3, 28, 58, MUS_INCONCLUSIVE);
+    r = mus_judge(50, practice, 4, 3, 25, found, 4, 30);
+    SAME(r, "a projected error equal to TE", 0, 0, 0, 30, 3, 28, 58, MUS_INCONCLUSIVE);
     r = mus_judge(50, practice, 4, 3, 25, found, 4, 29);
     SAME(r, "judgement above", 0, 0, 0, 30, 3, 28, 58, MUS_ABOVE);
     r = mus_judge(91, practice, 4, 3, 25, found, 4, 100);

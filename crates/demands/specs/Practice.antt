@@ -11,6 +11,8 @@ use Rattle.split.specs.Rounds.{intervals}
 use Rattle.split.specs.Split.{splitOf, marksOf}
 use Rattle.draw.specs.Draw.{drawOf}
 use Rattle.project.specs.Project.{projectOf}
+use Rattle.judge.specs.declared.Verdict.{Verdict}
+use Rattle.judge.specs.declared.Verdict.the-variants.{Below, Inconclusive}
 use Rattle.judge.specs.Judge.{judgeOf}
 use Rattle.demands.specs.Starts.{sumBelow, oneIf}
 use Rattle.demands.specs.Demand3.{marksFor, projectedFor, sampledIn, fullIn}
@@ -34,11 +36,18 @@ pub data Question : Type 0 where
   overAllStarts : List ℕ → ℕ → List ℕ → Question
   -- the projected error, the precision and the upper limit, at a level, of a ledger and n at a start with these errors entered, and TE
   limits : ℕ → List ℕ → ℕ → ℕ → List ℕ → ℕ → Question
+  -- the verdict, of the same
+  verdictOn : ℕ → List ℕ → ℕ → ℕ → List ℕ → ℕ → Question
 
--- a case: what is asked, and what the sheet says, by numbers or a refusal
+-- what answers a question: numbers, or a verdict
+pub data Answer : Type 0 where
+  these : List ℕ → Answer
+  this : Verdict → Answer
+
+-- a case: what is asked, and what the sheet says, an answer or a refusal
 pub record Case : Type 0 where
   pub asked : Question
-  pub says : Outcome (List ℕ)
+  pub says : Outcome Answer
 
 -- the lines with a mark, from a line's number on
 unfoldable pub withMark : ℕ → ℕ → List ℕ → List ℕ
@@ -46,11 +55,11 @@ withMark mark line [] = []
 withMark mark line (here ∷ later) = pick (eqb here mark) (line ∷ withMark mark (suc line) later) (withMark mark (suc line) later)
 
 -- an answer in numbers
-abbrev pub numbers : {A : Type 0} → (A → List ℕ) → Outcome A → Outcome (List ℕ)
-numbers shown outcome = after (λ a. accepted (shown a)) outcome
+abbrev pub numbers : {A : Type 0} → (A → List ℕ) → Outcome A → Outcome Answer
+numbers shown outcome = after (λ a. accepted (these (shown a))) outcome
 
 -- what the operations' definitions find
-unfoldable pub found : Question → Outcome (List ℕ)
+unfoldable pub found : Question → Outcome Answer
 found (draws level total te ae) = numbers (λ n. n ∷ []) (sizeOf level total te ae)
 found (roundsOf ledger n) = numbers (λ figures. intervals n ledger n) (splitOf ledger n (length ledger))
 found (intervalOf ledger n) = numbers (λ figures. figures .interval ∷ []) (splitOf ledger n (length ledger))
@@ -66,6 +75,7 @@ found (overAllStarts ledger n errors) =
     (splitOf ledger n (length ledger))
 found (limits level ledger n start errors te) =
     numbers (λ judgement. (judgement .projection .full + judgement .projection .sampled) ∷ judgement .precision ∷ judgement .«upper_limit» ∷ []) (judgeOf level ledger n start errors te)
+found (verdictOn level ledger n start errors te) = after (λ judgement. accepted (this (judgement .verdict))) (judgeOf level ledger n start errors te)
 
 abbrev grants : List ℕ
 grants = 500 ∷ 120 ∷ 0 ∷ 80 ∷ 300 ∷ []
@@ -80,12 +90,15 @@ abbrev errors : List ℕ
 errors = 7 ∷ 0 ∷ 10 ∷ 5 ∷ []
 
 abbrev is : Question → List ℕ → Case
-is question answer = record { asked = question; says = accepted answer }
+is question answer = record { asked = question; says = accepted (these answer) }
+
+abbrev judged : Question → Verdict → Case
+judged question verdict = record { asked = question; says = accepted (this verdict) }
 
 abbrev earns : Question → ℕ → ℕ → Case
 earns question number place = record { asked = question; says = refused number place }
 
--- the cases marked *, in the order of the sheet
+-- the cases marked *, in the order of the sheet; at the end a limit equal to TE, and one cent under it, as document 02 amends step 7
 unfoldable pub practice : List Case
 practice =
     is (draws 95 1000000 20000 0) (150 ∷ [])
@@ -109,6 +122,8 @@ practice =
     ∷ earns (projected claims 3 0 errors) 15 3
     ∷ is (limits 90 claims 3 25 errors 100) (30 ∷ 107 ∷ 137 ∷ [])
     ∷ is (limits 50 claims 3 25 errors 100) (30 ∷ 28 ∷ 58 ∷ [])
+    ∷ judged (verdictOn 50 claims 3 25 errors 58) Inconclusive
+    ∷ judged (verdictOn 50 claims 3 25 errors 59) Below
     ∷ []
 
 -- the cases of a list, one by one, are found as the sheet says them

@@ -2,7 +2,7 @@
 use mathlib.Core.Path.{_≡_, sym, ap, _∙_}
 use mathlib.Core.List.{List}
 use Prim.Native.Nat.{ℕ, _+_, _≤_, _<_}
-use borrow.Author.Tests.{lt-ltb, le-ltb, le-leb, lt-leb, eq-eqb, ne-eqb}
+use borrow.Author.Tests.{lt-ltb, le-ltb, eq-eqb, ne-eqb}
 use lib.ListN.{length}
 use Rattle.terms.specs.declared.Refusal.{Refusal}
 use Rattle.terms.specs.Outcome.{Outcome, accepted, refused, refusedBy, after}
@@ -22,24 +22,10 @@ use Rattle.project.specs.declared.Projection.{Projection}
 use Rattle.project.specs.Project.{Ready}
 use Rattle.project.proofs.Laws.{ready}
 use Rattle.judge.specs.declared.Verdict.{Verdict}
-use Rattle.judge.specs.declared.Verdict.the-variants.{Below, Inconclusive, Above}
 use Rattle.judge.specs.declared.Judgement.{Judgement}
 use Rattle.judge.specs.declared.JudgeAnswer.{JudgeAnswer}
 use Rattle.judge.specs.declared.JudgeAnswer.the-variants.{Refused}
 use Rattle.judge.specs.Judge.{judgeSays, verdictOf, concluded, judgedAt, judgedFigures, judgedTotal, judgedLedger, judgeOf, JudgePromise}
-
-module _ (te projected limit : ℕ) where
-  pub is-above : te < projected → Above ≡ verdictOf te projected limit
-  unfolding verdictOf
-  is-above h = simp (lt-ltb _ _ h)
-
-  pub is-below : projected ≤ te → limit ≤ te → Below ≡ verdictOf te projected limit
-  unfolding verdictOf
-  is-below h l = simp (le-ltb _ _ h, le-leb _ _ l)
-
-  pub is-inconclusive : projected ≤ te → te < limit → Inconclusive ≡ verdictOf te projected limit
-  unfolding verdictOf
-  is-inconclusive h l = simp (le-ltb _ _ h, lt-leb _ _ l)
 
 pub concludes : (te : ℕ) (p : Projection) (precision limit : ℕ) (v : Verdict) → limit ≡ p .full + p .sampled + precision → v ≡ verdictOf te (p .full + p .sampled) limit →
     _≡_ {A = Judgement} (record { projection = p; precision = precision; «upper_limit» = limit; verdict = v }) (concluded te p precision)

@@ -1,12 +1,11 @@
--- What is known of an accepted judgement, when each verdict is given, and which refusals the judgement gives. Assumes nothing.
+-- What is known of an accepted judgement, and which refusals the judgement gives. Assumes nothing.
 use mathlib.Core.Path.{_≡_, sym, ap, _∙_, subst}
 use mathlib.Core.Bool.{false}
 use mathlib.Core.List.{List, [], _∷_, _++_}
-use mathlib.Core.Logic.{_↔_}
 use Prim.Native.Nat.{ℕ, _+_, _≤_, _<_}
 use native.Mathlib.Omega.{arith}
-use borrow.Author.Tests.{ltb-true, ltb-false, leb-true, leb-false, eqb-false}
-use lib.Dec.{T, ltb, leb, eqb}
+use borrow.Author.Tests.{ltb-false, eqb-false}
+use lib.Dec.{T, ltb, eqb}
 use lib.IntN.{pos, natAbs}
 use lib.ListN.{length}
 use Rattle.terms.specs.Outcome.{Outcome, accepted, refused, after}
@@ -31,11 +30,8 @@ use Rattle.project.proofs.Facts.{ErrorsWithin, LinesFacts, lines-facts}
 use Rattle.project.proofs.Laws.{checked-lines, checked-give, projection-by, project-from, projectNumbers}
 use Rattle.precision.specs.Precision.{precisionOf, precisionCents}
 use Rattle.precision.proofs.Rounded.{never-negative, no-interval}
-use Rattle.judge.specs.declared.Verdict.{Verdict}
-use Rattle.judge.specs.declared.Verdict.the-variants.{Below, Inconclusive, Above}
 use Rattle.judge.specs.declared.Judgement.{Judgement}
 use Rattle.judge.specs.Judge.{verdictOf, concluded, judgedWith, judgedLines, judgedAt, judgedFigures, outOfRange, judgedTotal, judgedLedger, judgeOf}
-use Rattle.judge.proofs.Answer.{is-above, is-below, is-inconclusive}
 
 -- what an accepted judgement gives
 pub record JudgeFacts (percent : ℕ) (ledger : List ℕ) (n start : ℕ) (errors : List ℕ) (te : ℕ) (j : Judgement) : Type 0 where
@@ -131,33 +127,6 @@ judge-facts percent ledger n start errors te j e =
     by-test (λ o. o ≡ accepted j → JudgeFacts percent ledger n start errors te j) (outOfRange te (b .0)) (λ t g. never g)
     (λ t g. let c = after-accepted (λ figures. judgedAt level ledger start errors te (figures .interval)) (figuresFor ledger n start (length errors)) j g in
     judge-facts-at level ledger n start errors te (c .0) (c .1) percent (b .0) j (a .1) (b .1) t (c .2)) (b .2)
-
--- when each verdict is given
-module _ (te projected limit : ℕ) where
-  by-verdict : (P : Verdict → Type 0) → (te < projected → P Above) → (projected ≤ te → limit ≤ te → P Below) → (projected ≤ te → te < limit → P Inconclusive) →
-      P (verdictOf te projected limit)
-  unfolding verdictOf
-  by-verdict P above below inconclusive =
-      by-test P (ltb te projected) (λ t. above (ltb-true _ _ t))
-      (λ t. by-test P (leb limit te) (λ u. below (ltb-false _ _ t) (leb-true _ _ u)) (λ u. inconclusive (ltb-false _ _ t) (leb-false _ _ u)))
-
-  pub above-exactly : (verdictOf te projected limit ≡ Above) ↔ (te < projected)
-  above-exactly = (
-    by-verdict (λ v. v ≡ Above → te < projected) (λ h e. h) (λ h l e. let z : _≡_ {A = ℕ} 0 1 = cc in absurd (omega arith)) (λ h l e. let z : _≡_ {A = ℕ} 0 1 = cc in absurd (omega arith)),
-    λ h. sym (is-above te projected limit h),
-  )
-
-  pub below-exactly : (verdictOf te projected limit ≡ Below) ↔ ((projected ≤ te) × (limit ≤ te))
-  below-exactly = (
-    by-verdict (λ v. v ≡ Below → (projected ≤ te) × (limit ≤ te)) (λ h e. let z : _≡_ {A = ℕ} 0 1 = cc in absurd (omega arith)) (λ h l e. (h, l)) (λ h l e. let z : _≡_ {A = ℕ} 0 1 = cc in absurd (omega arith)),
-    λ h. sym (is-below te projected limit (h .0) (h .1)),
-  )
-
-  pub inconclusive-exactly : (verdictOf te projected limit ≡ Inconclusive) ↔ ((projected ≤ te) × (te < limit))
-  inconclusive-exactly = (
-    by-verdict (λ v. v ≡ Inconclusive → (projected ≤ te) × (te < limit)) (λ h e. let z : _≡_ {A = ℕ} 0 1 = cc in absurd (omega arith)) (λ h l e. let z : _≡_ {A = ℕ} 0 1 = cc in absurd (omega arith)) (λ h l e. (h, l)),
-    λ h. sym (is-inconclusive te projected limit (h .0) (h .1)),
-  )
 
 -- the refusals that the judgement gives
 abbrev pub judgeNumbers : List ℕ

@@ -2,4 +2,5 @@
 pub mod Amounts
 pub mod Answer
 pub mod Laws
+pub mod Verdicts
 pub mod Worked

@@ -38,9 +38,9 @@ pub at-25 : (judgeOf 90 claims 3 25 found 100 ≡ with 30 3 107 137 Inconclusive
 unfolding judgeOf levelOf judgedLedger judgedFigures figuresFor splitOf figuresFrom ledgerOf runningTotal runningFrom rounds judgedAt checkedLines checkedFrom checkedLine linesOf linesFrom judgedLines total amountsOf amount covers points divUp concluded verdictOf precisionOf hundredths roundUp sortDown rf stepOf table
 at-25 = (refl, refl)
 
--- a limit equal to TE is below, and a projected error equal to TE is not above
-pub edges : (judgeOf 50 claims 3 25 found 58 ≡ with 30 3 28 58 Below)
-    × (judgeOf 50 claims 3 25 found 57 ≡ with 30 3 28 58 Inconclusive)
+-- a limit equal to TE is inconclusive, one a cent under TE is below, and a projected error equal to TE is not above
+pub edges : (judgeOf 50 claims 3 25 found 59 ≡ with 30 3 28 58 Below)
+    × (judgeOf 50 claims 3 25 found 58 ≡ with 30 3 28 58 Inconclusive)
     × (judgeOf 50 claims 3 25 found 30 ≡ with 30 3 28 58 Inconclusive)
     × (judgeOf 50 claims 3 25 found 29 ≡ with 30 3 28 58 Above)
 unfolding judgeOf levelOf judgedLedger judgedFigures figuresFor splitOf figuresFrom ledgerOf runningTotal runningFrom rounds judgedAt checkedLines checkedFrom checkedLine linesOf linesFrom judgedLines total amountsOf amount covers points divUp concluded verdictOf precisionOf hundredths roundUp sortDown rf stepOf table

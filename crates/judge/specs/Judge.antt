@@ -3,7 +3,7 @@ use mathlib.Core.Path.{_≡_}
 use Prim.Native.Nat.{ℕ, _+_, _*_, _^_, _≤_, _<_}
 use mathlib.Core.Bool.{Bool, true}
 use mathlib.Core.List.{List, _++_}
-use lib.Dec.{ltb, leb, eqb}
+use lib.Dec.{ltb, eqb}
 use lib.ListN.{length, take, drop}
 use Rattle.terms.specs.Outcome.{Outcome, accepted, refused, refusedBy, after}
 use Rattle.terms.specs.Numbers.{pick, AllUpTo}
@@ -25,9 +25,13 @@ abbrev pub judgeSays : JudgeAnswer → Outcome Judgement
 judgeSays (JudgeAnswer.Judged judgement) = accepted judgement
 judgeSays (JudgeAnswer.Refused why) = refusedBy why
 
--- step 7: above when the projected error exceeds TE, below when the upper limit is not above TE, otherwise inconclusive
+-- the upper limit is less than TE; equality is not enough
+abbrev pub underTe : ℕ → ℕ → Bool
+underTe te limit = ltb limit te
+
+-- step 7, as document 02 amends it: above when the projected error exceeds TE, below only when the upper limit is less than TE, otherwise inconclusive
 unfoldable pub verdictOf : ℕ → ℕ → ℕ → Verdict
-verdictOf te projected limit = pick (ltb te projected) Above (pick (leb limit te) Below Inconclusive)
+verdictOf te projected limit = pick (ltb te projected) Above (pick (underTe te limit) Below Inconclusive)
 
 -- the upper limit is both projected sums and the precision
 unfoldable pub concluded : ℕ → Projection → ℕ → Judgement

@@ -35,14 +35,14 @@ pub enum JudgeAnswer {
     Refused(Refusal),
 }
 
-// Above when the projected error exceeds TE, below when the upper limit is not above TE, otherwise inconclusive.
+// Above when the projected error exceeds TE, below only when the upper limit is less than TE, otherwise inconclusive.
 fn verdict_of(te: u64, projected: u64, limit: u64) -> Verdict
     ensures { λ r. ⌜ r ≡ verdictOf te projected limit ⌝ }
 {
     if projected > te {
         return Verdict::Above;
     }
-    if limit <= te {
+    if limit < te {
         return Verdict::Below;
     }
     Verdict::Inconclusive

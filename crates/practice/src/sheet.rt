@@ -61,6 +61,8 @@ pub fn judgements() {
     let errors = [7, 0, 10, 5];
     found(calls::judge(90, &ledger, 3, 25, &errors, 100));
     found(calls::judge(50, &ledger, 3, 25, &errors, 100));
+    found(calls::judge(50, &ledger, 3, 25, &errors, 58));
+    found(calls::judge(50, &ledger, 3, 25, &errors, 59));
 }
 
 pub fn widest_intervals() {

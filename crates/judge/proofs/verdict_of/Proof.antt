@@ -1,6 +1,6 @@
 -- `judge::verdict_of` meets its contract: the tests that led to a `return` say which verdict it is. Assumes nothing.
 use native.Mathlib.Omega.{arith}
-use Rattle.judge.proofs.Answer.{is-above, is-below, is-inconclusive}
+use Rattle.judge.proofs.Verdicts.{is-above, is-below, is-inconclusive}
 use Rattle.judge.proofs.verdict_of.Statement.{statement}
 use Rattle.judge.proofs.verdict_of.Tie as tie
 

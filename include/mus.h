@@ -8,7 +8,25 @@
  * Money and numbers of draws are 64-bit, money in whole cents. Lines are numbered from 0. A list is a pointer and a number of entries;
  * the pointer may be null where that number is 0. Otherwise it is aligned as its type and reaches that many entries. What a pointer
  * without const reaches overlaps nothing else that is lent to the same call, and no other thread touches it during the call.
- * No function keeps a pointer, allocates, or has a state of its own: calls from several threads do not disturb each other. */
+ * No function keeps a pointer, allocates, or has a state of its own: calls from several threads do not disturb each other.
+ *
+ * Stack: the bytes that a call needs, with its return address and the room for its result. The split of a ledger goes by rounds,
+ * and the draw, the projection, the judgement and the sheet split too: a call of r rounds needs the larger of the first two figures.
+ * No ledger and no number of draws make more than MUS_MOST_ROUNDS rounds, which is proved; so the last figure is enough for every input.
+ *
+ *     call              one round   r rounds           90 rounds
+ *     mus_size                104
+ *     mus_split               192   144 + 48 r            4,464
+ *     mus_start                56
+ *     mus_draw                176   128 + 48 r            4,448
+ *     mus_project             584   192 + 48 r            4,512
+ *     mus_project_lines       616   224 + 48 r            4,544
+ *     mus_judge             1,496   1,104 + 48 r          5,424
+ *     mus_read                304
+ *     mus_write               136
+ *     mus_sheet            34,864   34,592 + 48 r        38,912
+ *
+ * It was measured on the library as `rt staticlib mus` makes it (docs/PERFORMANCE.md). */
 #ifndef MUS_H
 #define MUS_H
 
@@ -25,6 +43,9 @@ extern "C" {
 #define MUS_MOST_TOTAL UINT64_C(1000000000000000)
 #define MUS_MOST_INTERVAL UINT64_C(1000000000000000)
 #define MUS_MOST_ERRORS UINT64_C(63)
+
+/* The rounds that a split makes at most, whatever the ledger and the number of draws. */
+#define MUS_MOST_ROUNDS UINT64_C(90)
 
 /* A working file: its largest counts, which are also the reader's least rooms, and the length of the longest legal one. */
 #define MUS_MOST_WORDS UINT64_C(64)

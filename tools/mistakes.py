@@ -1,11 +1,11 @@
 #!/usr/bin/env python3
-"""What each mistake of document 01's "Where newcomers slip" does to the figures of samples/large-grants, and to those
-of the practice ledger over all its starts.
+"""The tables of the handbook: how fast the rounds of a split shrink; and what each mistake of document 01's "Where newcomers slip" does
+to the figures of samples/large-grants, and to those of the practice ledger over all its starts.
 
     python3 tools/mistakes.py write      puts the tables into docs/HANDBOOK.md, each in the place of the one with its heading
     python3 tools/mistakes.py check      compares them with those that the page holds
 
-Every row is the reference with one mistake put in; the other steps are as they are. A line whose error was found is one that
+Every row of a mistake is the reference with that mistake put in; the other steps are as they are. A line whose error was found is one that
 the right draw takes. Where a mistake draws other lines, an error that it does not find is left out.
 """
 
@@ -20,6 +20,7 @@ import self_test
 ROOT = pathlib.Path(__file__).resolve().parent.parent
 PAGE = ROOT / "docs" / "HANDBOOK.md"
 TOP = 2**64
+GRANTS = [500, 120, 0, 80, 300]
 
 
 class Case:
@@ -105,6 +106,24 @@ def full_lines_laid(case):
     """The drawn lines where full lines take up cents of the row."""
     every = reference.drawn_lines(case.ledger, range(len(case.ledger)), case.interval, case.start)
     return [line for line in every if line in case.sampled]
+
+
+def shrinking(ledger, n):
+    """Round by round what the lines lack, where none is above B, of a line of B for each draw; and that times the draws."""
+    lines, draws, most, rows = list(ledger), n, max(ledger), []
+    for interval in reference.split_rounds(ledger, n).intervals:
+        lacking = draws * most - sum(lines)
+        rows.append((draws, most, sum(lines), lacking, draws * lacking))
+        draws, most = draws - sum(value > interval for value in lines), interval
+        lines = [value for value in lines if value <= interval]
+    fours = [4 * later[-1] for later in rows[1:]]
+    assert all(four <= row[-1] for four, row in zip(fours, rows)) and 4 ** (len(rows) - 2) <= n * n * sum(ledger)
+    ends = [f"{four:,}" for four in fours] + [""]
+    return [
+        "| round | draws d | B | total | A = d × B - total | d × A | 4 × the next d × A |",
+        "|---|---|---|---|---|---|---|",
+        *("| " + " | ".join([str(place), *(f"{figure:,}" for figure in row), four]) + " |" for place, (row, four) in enumerate(zip(rows, ends), start=1)),
+    ]
 
 
 HEADING = ["| | interval | drawn | m | projected | precision | upper limit | verdict |", "|---|---|---|---|---|---|---|---|"]
@@ -206,7 +225,8 @@ def main(arguments):
     if arguments not in (["write"], ["check"]):
         sys.exit(__doc__)
     case = Case("large-grants.txt")
-    tables = ["\n".join(lines) for lines in (at_its_level(case), over_starts(case), at_level_50(case), practice_starts())]
+    rounds = shrinking(GRANTS, 4), shrinking(case.ledger, case.n)
+    tables = ["\n".join(lines) for lines in (*rounds, at_its_level(case), over_starts(case), at_level_50(case), practice_starts())]
     page = PAGE.read_text()
     made = with_tables(page, tables)
     if arguments == ["write"]:

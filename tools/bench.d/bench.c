@@ -1,7 +1,7 @@
 /* One row of tools/bench: sets an operation's input up, then calls it 0 times or once (what to count instructions of), or times it, or
- * measures the stack that it needs.
+ * measures the stack that it needs; or says how many rounds a ledger of many makes.
  *
- *     bench ROW LINES calls 0|1     bench ROW LINES time     bench ROW LINES stack */
+ *     bench ROW LINES calls 0|1     bench ROW LINES time     bench ROW LINES stack     bench ROW LINES rounds */
 #include <stdint.h>
 #include <stdio.h>
 #include <string.h>
@@ -13,8 +13,8 @@
 
 static uint64_t ledger[MOST], errors[MOST], amounts[MOST], words[64], values_room[2048], errors_room[2048], words_room[64];
 static uint8_t marks[MOST], file[MUS_LONGEST_FILE];
-static size_t lines;
-static uint64_t draws, start, te, seed = 1;
+static size_t lines, file_length = sizeof file;
+static uint64_t draws, start, te, file_te = 20000, file_ae = 4000, file_words = 64, rounds, seed = 1;
 static volatile uint64_t kept; /* so that no call is left out */
 
 static uint64_t next_random(uint64_t below)
@@ -38,7 +38,17 @@ static void wide_ledger(void)
     for (size_t i = 0; i < lines; i++) ledger[i] *= 100000;
 }
 
-/* The same with a few long lines, each of which is above the interval of one round and not of the round before: so many rounds. */
+/* Lines of the largest value and one draw, so that the interval is the largest too; all of the drawn line is an error. */
+static void widest_ledger(void)
+{
+    lines = 100;
+    for (size_t i = 0; i < lines; i++) ledger[i] = MUS_MOST_VALUE;
+    errors[0] = ledger[0];
+    draws = te = 1;
+    start = 0;
+}
+
+/* The plain ledger with a few long lines, each of which is above the interval of one round and not of the round before: so many rounds. */
 static void ledger_of_rounds(unsigned rounds)
 {
     uint64_t added = 0, former = 0;
@@ -55,22 +65,24 @@ static void ledger_of_rounds(unsigned rounds)
     }
 }
 
-/* A ledger that needs many rounds: made from its last line backwards, where each round's lines are the least that the round before
- * leaves alone. */
-static void deep_ledger(void)
+/* A ledger of at most so many lines that makes many rounds: made from its last line backwards, where each round's lines are the least
+ * that the round before leaves alone. */
+static uint64_t deep_ledger(void)
 {
+    size_t most = lines;
     uint64_t added = 1, former = 1;
-    ledger[0] = lines = draws = 1;
+    ledger[0] = lines = draws = rounds = 1;
     for (;;) {
         uint64_t more = (draws + 1) / 2, value = added / draws + 1, least = ((draws + more) * former - added + more - 1) / more;
         if (value < former) value = former;
         if (value < least) value = least;
         while (value <= (added + more * value) / (draws + more)) value++;
-        if (lines + more > MOST || added + more * value > MUS_MOST_TOTAL) return;
+        if (lines + more > most || added + more * value > MUS_MOST_TOTAL) return added;
         for (uint64_t i = 0; i < more; i++) ledger[lines++] = value;
         added += more * value;
         draws += more;
         former = value;
+        rounds++;
     }
 }
 
@@ -106,22 +118,52 @@ static void call_lines(void) { kept = mus_project_lines(ledger, lines, draws, st
 static void call_judge(void) { kept = mus_judge(95, ledger, lines, draws, start, errors, lines, te).precision; }
 static void call_size(void) { kept = mus_size(95, 1000000, 20000, 4000).draws; }
 static void call_start(void) { kept = mus_start(40, words, 64).start; }
-static void call_read(void) { kept = mus_read(file, sizeof file, words_room, 64, values_room, 2048, errors_room, 2048).lines; }
-static void call_write(void) { kept = mus_write(95, 20000, 4000, words, 64, ledger, lines, errors, lines, file, sizeof file).length; }
+static void call_read(void) { kept = mus_read(file, file_length, words_room, 64, values_room, 2048, errors_room, 2048).lines; }
+static void call_write(void) { kept = mus_write(95, file_te, file_ae, words, file_words, ledger, lines, errors, lines, file, sizeof file).length; }
 
 #ifndef WITHOUT_SHEET
 static uint8_t page[MUS_LONGEST_TEXT];
-static void call_sheet(void) { kept = mus_sheet(file, sizeof file, page, sizeof page).length; }
+static void call_sheet(void) { kept = mus_sheet(file, file_length, page, sizeof page).length; }
+
+/* A content that is judged: 63 errors among its drawn lines, at an interval of 42 bits, and no line full. */
+static void judged_content(void)
+{
+    uint64_t total = 0;
+    longest_content();
+    for (size_t i = 0; i < lines; i++) {
+        ledger[i] *= 50000000;
+        errors[i] = 0;
+        total += ledger[i];
+    }
+    draws = mus_size(95, total, total / 50, 0).draws;
+    start = mus_start(total / draws, words, 64).start;
+    find_errors(MUS_MOST_ERRORS);
+    file_length = mus_write(95, total / 50, 0, words, 64, ledger, lines, errors, lines, file, sizeof file).length;
+}
 #endif
 
 static void set_judging(void) { plain_ledger(); }
 static void set_split_1(void) { ledger_of_rounds(1); draws = lines / 100; }
 static void set_split_3(void) { ledger_of_rounds(3); }
 static void set_split_10(void) { ledger_of_rounds(10); }
+static void set_no_errors(void) { plain_ledger(); find_errors(0); }
 static void set_project(void) { plain_ledger(); find_errors(20); }
 static void set_project_wide(void) { wide_ledger(); find_errors(20); }
 static void set_most_errors(void) { plain_ledger(); find_errors(MUS_MOST_ERRORS); }
 static void set_read(void) { longest_content(); call_write(); }
+
+/* Many rounds, and a call that is refused directly after the last, so that nothing is deeper: no start is so late, and a file without
+ * words has none. */
+static void set_deep(void) { deep_ledger(); start = UINT64_MAX; te = 1; }
+#ifndef WITHOUT_SHEET
+static void set_deep_file(void)
+{
+    file_te = (3 * deep_ledger() + draws - 1) / draws; /* so that the size is these draws: RF(0) is 3 at level 95 */
+    file_ae = file_words = 0;
+    call_write();
+    file_length = kept;
+}
+#endif
 
 static const struct row {
     const char *name;
@@ -131,17 +173,26 @@ static const struct row {
     {"split-1", set_split_1, call_split},
     {"split-3", set_split_3, call_split},
     {"split-10", set_split_10, call_split},
-    {"split-deep", deep_ledger, call_split},
+    {"split-deep", set_deep, call_split},
     {"draw", plain_ledger, call_draw},
+    {"draw-deep", set_deep, call_draw},
     {"project", set_project, call_project},
+    {"project-deep", set_deep, call_project},
     {"project-wide", set_project_wide, call_project},
+    {"project-widest", widest_ledger, call_project},
     {"lines", set_project, call_lines},
+    {"lines-deep", set_deep, call_lines},
+    {"lines-widest", widest_ledger, call_lines},
+    {"judge-0", set_no_errors, call_judge},
     {"judge", set_project, call_judge},
+    {"judge-deep", set_deep, call_judge},
     {"judge-63", set_most_errors, call_judge},
+    {"judge-widest", widest_ledger, call_judge},
     {"read", set_read, call_read},
     {"write", longest_content, call_write},
 #ifndef WITHOUT_SHEET
-    {"sheet", set_read, call_sheet},
+    {"sheet", judged_content, call_sheet},
+    {"sheet-deep", set_deep_file, call_sheet},
 #endif
     {"size", longest_content, call_size},
     {"start", longest_content, call_start},
@@ -187,6 +238,7 @@ int main(int argc, char **argv)
         rows[i].set();
         if (strcmp(argv[3], "time") == 0) printf("%llu\n", (unsigned long long) least_time(rows[i].call));
         else if (strcmp(argv[3], "stack") == 0) printf("%llu\n", (unsigned long long) written_below(rows[i].call));
+        else if (strcmp(argv[3], "rounds") == 0) printf("%llu\n", (unsigned long long) rounds);
         else if (argc == 5 && argv[4][0] == '1') rows[i].call();
         return 0;
     }

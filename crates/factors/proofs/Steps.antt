@@ -21,18 +21,7 @@ pub step-is : (l : Level) (k : ℕ) → suc k < 64 → stepOf l (suc k) ≡ sub�
 unfolding stepOf
 step-is l k h = simp (lt-ltb (suc k) 64 h) (less-hundred (rf l (suc k)) (rf l k))
 
--- the same, as code has it
-pub step-at : (l : Level) (k : ℕ) → (k ≡ 0 → ⊥) → k < 64 → stepOf l k ≡ (pos (rf l k) -ℤ pos (rf l (k - 1))) -ℤ pos 100
-unfolding stepOf
-step-at l zero n h = absurd (n refl)
-step-at l (suc k) n h =
-    let former : k ≡ suc k - 1 = omega arith in
-    simp (lt-ltb (suc k) 64 h) (ap (λ (m : ℕ). (pos (rf l (suc k)) -ℤ pos (rf l m)) -ℤ pos 100) former)
-
-pub step-none : (l : Level) (k : ℕ) → k ≡ 0 → stepOf l k ≡ pos 0
-unfolding stepOf
-step-none l k e = ap (stepOf l) e
-
+-- past the table there is none
 pub step-past : (l : Level) (k : ℕ) → 64 ≤ k → stepOf l k ≡ pos 0
 unfolding stepOf
 step-past l zero h = refl

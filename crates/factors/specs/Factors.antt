@@ -3,7 +3,8 @@ use mathlib.Core.Path.{_≡_}
 use Prim.Native.Nat.{ℕ, zero, suc, _+_, _*_, _<_}
 use lib.Dec.{ltb}
 use lib.IntN.{ℤ, pos, _-ℤ_}
-use lib.ListN.{getD}
+use mathlib.Core.List.{List}
+use lib.ListN.{getD, take, drop}
 use Rattle.terms.specs.Numbers.{pick}
 use Rattle.factors.specs.declared.Level.{Level}
 use Rattle.factors.specs.Levels.{percentOf, rowOf}
@@ -13,6 +14,10 @@ use Rattle.factors.specs.Table.{table}
 -- RF(k), and 0 past the table
 unfoldable pub rf : Level → ℕ → ℕ
 rf level k = pick (ltb k 64) (getD table (rowOf level * 64 + k) 0) 0
+
+-- the factors of a level, RF(0) to RF(63)
+unfoldable pub factorsOf : Level → List ℕ
+factorsOf level = take 64 (drop (rowOf level * 64) table)
 
 -- the answer r is RF(k) of the table, and the factor by the rule
 pub record Reliability (level : Level) (k r : ℕ) : Type 0 where

@@ -1,8 +1,10 @@
 // The factors of document 01: nine levels, an expansion factor for each, and sixty-four reliability factors for each.
 use terms::Refusal;
 ghost use mathlib.Core.Path.{_≡_};
-ghost use Rattle.factors.specs.Levels.{LevelPromise, rowOf, ef};
-ghost use Rattle.factors.specs.Factors.{Reliability, stepOf};
+ghost use lib.ListN.{length};
+ghost use lib.IntN.{pos, _-ℤ_};
+ghost use Rattle.factors.specs.Levels.{LevelPromise, ef};
+ghost use Rattle.factors.specs.Factors.{factorsOf, Reliability};
 
 mod table;
 
@@ -43,23 +45,6 @@ pub fn level_of(percent: u8) -> LevelAnswer
     }
 }
 
-// The row of a level in the table.
-pub fn row(level: Level) -> usize
-    ensures { λ r. ⌜ r ≡ rowOf level ⌝ }
-{
-    match level {
-        Level::P99 => 0,
-        Level::P95 => 1,
-        Level::P90 => 2,
-        Level::P85 => 3,
-        Level::P80 => 4,
-        Level::P75 => 5,
-        Level::P70 => 6,
-        Level::P60 => 7,
-        Level::P50 => 8,
-    }
-}
-
 // The expansion factor EF, in hundredths.
 pub fn expansion(level: Level) -> u64
     ensures { λ r. ⌜ r ≡ ef level ⌝ }
@@ -77,10 +62,43 @@ pub fn expansion(level: Level) -> u64
     }
 }
 
-fn wide(factor: u16) -> u64
+// A factor in 64 bits.
+pub fn wide(factor: u16) -> u64
     ensures { λ r. ⌜ r ≡ factor ⌝ }
 {
     factor as u64
+}
+
+// A row of the table, copied.
+fn copied(factors: &[u16]) -> [u16; 64]
+    requires { ⌜ length (now factors) ≡ 64 ⌝ }
+    ensures { λ r. ⌜ r ≡ now (factors .entry) ⌝ }
+{
+    let mut row = [0u16; 64];
+    let mut k = 0;
+    while k < 64 {
+        row[k] = factors[k];
+        k += 1;
+    }
+    row
+}
+
+// The factors of a level, RF(0) to RF(63). Each row is lent by fixed bounds: so the compiler stores the row alone, and not the table.
+pub fn factors_of(level: Level) -> [u16; 64]
+    ensures { λ r. ⌜ r ≡ factorsOf level ⌝ }
+{
+    let factors = table::FACTORS;
+    match level {
+        Level::P99 => copied(&factors[0..64]),
+        Level::P95 => copied(&factors[64..128]),
+        Level::P90 => copied(&factors[128..192]),
+        Level::P85 => copied(&factors[192..256]),
+        Level::P80 => copied(&factors[256..320]),
+        Level::P75 => copied(&factors[320..384]),
+        Level::P70 => copied(&factors[384..448]),
+        Level::P60 => copied(&factors[448..512]),
+        Level::P50 => copied(&factors[512..576]),
+    }
 }
 
 // The reliability factor RF(k) in hundredths, and 0 past the table.
@@ -88,23 +106,16 @@ pub fn reliability(level: Level, k: usize) -> u64
     ensures { λ r. ⌜ Reliability level k r ⌝ }
 {
     if k < 64 {
-        wide(table::FACTORS[row(level) * 64 + k])
+        let factors = factors_of(level);
+        wide(factors[k])
     } else {
         0
     }
 }
 
-// The k-th step, RF(k) - RF(k - 1) - 100, which may be below zero. The steps are those from 1 to 63, and any other is 0.
-pub fn step(level: Level, k: usize) -> i64
-    ensures { λ r. ⌜ r ≡ stepOf level k ⌝ }
+// The step from a factor to the next, less a hundred: it may be below zero.
+pub fn step(former: u16, factor: u16) -> i64
+    ensures { λ r. ⌜ r ≡ (pos factor -ℤ pos former) -ℤ pos 100 ⌝ }
 {
-    if k == 0 {
-        return 0;
-    }
-    if k >= 64 {
-        return 0;
-    }
-    let factor = reliability(level, k) as i64;
-    let former = reliability(level, k - 1) as i64;
-    factor - former - 100
+    factor as i64 - former as i64 - 100
 }

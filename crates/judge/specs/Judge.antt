@@ -2,11 +2,11 @@
 use mathlib.Core.Path.{_≡_}
 use Prim.Native.Nat.{ℕ, _+_, _*_, _^_, _≤_, _<_}
 use mathlib.Core.Bool.{Bool, true}
-use mathlib.Core.List.{List, _++_}
+use mathlib.Core.List.{List}
 use lib.Dec.{ltb, eqb}
-use lib.ListN.{length, take, drop}
+use lib.ListN.{length, take}
 use Rattle.terms.specs.Outcome.{Outcome, accepted, refused, refusedBy, after}
-use Rattle.terms.specs.Numbers.{pick, AllUpTo}
+use Rattle.terms.specs.Numbers.{pick}
 use Rattle.terms.specs.Limits.{mostErrors, mostTotal}
 use Rattle.factors.specs.declared.Level.{Level}
 use Rattle.factors.specs.Levels.{levelOf}
@@ -15,7 +15,7 @@ use Rattle.split.specs.Start.{figuresFor}
 use Rattle.project.specs.declared.{Line.Line, Projection.Projection}
 use Rattle.project.specs.Lines.{projectionOf, amountsOf}
 use Rattle.project.specs.Project.{checkedLines}
-use Rattle.sorting.specs.Sorting.{sortDown}
+use Rattle.sorting.specs.Sorting.{Falls}
 use Rattle.precision.specs.Precision.{precisionCents}
 use Rattle.judge.specs.declared.{Verdict.Verdict, Judgement.Judgement, JudgeAnswer.JudgeAnswer}
 use Rattle.judge.specs.declared.Verdict.the-variants.{Below, Inconclusive, Above}
@@ -81,14 +81,9 @@ judgeOf percent ledger n start errors te = after (judgedLedger ledger n start er
 pub record JudgePromise (percent : ℕ) (ledger : List ℕ) (n start : ℕ) (errors : List ℕ) (te : ℕ) (r : JudgeAnswer) : Type 0 where
   pub answer : judgeSays r ≡ judgeOf percent ledger n start errors te
 
--- where m is at most 63, the first m of a list are the amounts of the projection, none above the interval
+-- where m is at most 63, the first m of a list are the amounts of the projection, and fall from the interval
 pub record Concludable (J : ℕ) (projection : Projection) (amounts : List ℕ) : Type 0 where
   pub narrow : J ≤ mostTotal
   pub room : projection .m ≤ mostErrors → projection .m ≤ length amounts
-  pub each : projection .m ≤ mostErrors → AllUpTo J (take (projection .m) amounts)
+  pub fall : projection .m ≤ mostErrors → Falls J (take (projection .m) amounts)
   pub fits : projection .full + projection .sampled + (22 * J + 1) < 2 ^ 64
-
--- what `judge_amounts` promises: the answer, and the amounts, sorted unless 16 is given
-pub record AmountsPromise (level : Level) (J te : ℕ) (projection : Projection) (amounts : List ℕ) (r : JudgeAnswer) (amounts′ : List ℕ) : Type 0 where
-  pub answer : judgeSays r ≡ judgedWith level te J projection (take (projection .m) amounts)
-  pub amounts-left : amounts′ ≡ pick (ltb mostErrors (projection .m)) amounts (sortDown (take (projection .m) amounts) ++ drop (projection .m) amounts)

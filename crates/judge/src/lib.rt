@@ -10,11 +10,11 @@ use terms::Item;
 use terms::Refusal;
 ghost use mathlib.Core.Path.{_≡_};
 ghost use Prim.Native.Nat.{_+_, _^_, _<_};
-ghost use lib.ListN.{length};
+ghost use lib.ListN.{length, take};
 ghost use Rattle.terms.specs.Outcome.{accepted};
 ghost use Rattle.ledger.specs.Ledger.{ledgerOf};
 ghost use Rattle.project.specs.Project.{Ready};
-ghost use Rattle.judge.specs.Judge.{judgeSays, verdictOf, concluded, Concludable, AmountsPromise, judgedAt, judgedFigures, judgedLedger, JudgePromise};
+ghost use Rattle.judge.specs.Judge.{judgeSays, verdictOf, concluded, judgedWith, Concludable, judgedAt, judgedFigures, judgedLedger, JudgePromise};
 
 pub enum Verdict {
     Below,
@@ -64,22 +64,22 @@ fn conclude(te: u64, projection: Projection, precision: u64) -> Judgement
     }
 }
 
-// Precision, upper limit and verdict, from a projection and its amounts, the first m of a list; or 16.
+// Precision, upper limit and verdict, from a projection and its amounts, the first m of a list, which fall; or 16.
 fn judge_amounts(
     level: Level,
     interval: u64,
     te: u64,
     projection: Projection,
-    amounts: &mut [u64],
+    amounts: &[u64],
 ) -> JudgeAnswer
     requires { ⌜ Concludable interval projection (now amounts) ⌝ }
-    ensures { λ r. ⌜ AmountsPromise level interval te projection (now (amounts .entry)) r (now (amounts .exit)) ⌝ }
+    ensures { λ r. ⌜ judgeSays r ≡ judgedWith level te interval projection (take (projection .m) (now (amounts .entry))) ⌝ }
 {
     let m = projection.m as usize;
     if m > terms::MOST_ERRORS {
         return JudgeAnswer::Refused(Refusal::TooManyErrors);
     }
-    let precision = precision::precision(level, interval, &mut amounts[..m]);
+    let precision = precision::precision(level, interval, &amounts[..m]);
     let judgement = conclude(te, projection, precision);
     JudgeAnswer::Judged(judgement)
 }
@@ -100,7 +100,7 @@ fn judge_lines(
     match project::gather(Item(0), ledger, interval, start, errors, &mut amounts) {
         ProjectAnswer::Refused(why) => JudgeAnswer::Refused(why),
         ProjectAnswer::Projected(projection) => {
-            judge_amounts(level, interval, te, projection, &mut amounts)
+            judge_amounts(level, interval, te, projection, &amounts)
         }
     }
 }

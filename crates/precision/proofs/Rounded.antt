@@ -14,8 +14,8 @@ use Rattle.terms.specs.Numbers.{AllUpTo}
 use Rattle.terms.proofs.Differences.{back}
 use Rattle.factors.specs.declared.Level.{Level}
 use Rattle.sorting.specs.Sorting.{sortDown}
-use Rattle.precision.specs.Precision.{hundredths, roundUp, precisionOf, Weighable, Falling, PrecisionPromise}
-use Rattle.sorting.proofs.Sorted.{length-sort, sort-falls}
+use Rattle.precision.specs.Precision.{hundredths, roundUp, precisionOf, Falling}
+use Rattle.sorting.proofs.Sorted.{length-sort, sort-falls, sort-twice, sort-fallen}
 use Rattle.precision.proofs.Sums.{Fallen, byParts, in-naturals, by-parts-most, sum-small}
 
 -- the amounts of a judgement in the order in which they came: fewer than 64, none above J
@@ -47,38 +47,36 @@ no-interval l amounts few all =
     let none : (natural l 0 amounts few all + 99) / 100 ≡ 0 = omega (arith, by-parts-most (fallen l 0 amounts few all) (length amounts) (omega (arith, length-sort amounts))) in
     in-hundreds l 0 amounts few all ∙ ap pos none
 
--- what is known where amounts have been sorted
-pub record AtSorted (l : Level) (J : ℕ) (amounts sorted : List ℕ) : Type 0 where
-  pub fit : Weighable J amounts
-  pub order : sorted ≡ sortDown amounts
+-- amounts that fall are weighed as they stand
+pub precision-sorted : (l : Level) (J : ℕ) (amounts : List ℕ) → precisionOf l J (sortDown amounts) ≡ precisionOf l J amounts
+unfolding precisionOf
+precision-sorted l J amounts = λ i. roundUp (hundredths l J (sort-twice amounts i) (length-sort amounts i))
 
-module _ {l : Level} {J : ℕ} {amounts sorted : List ℕ} (at : AtSorted l J amounts sorted) where
-  same-length : length sorted ≡ length amounts
-  same-length = ap length (at .order) ∙ length-sort amounts
-
-  pub weigh-ready : Falling J sorted
-  weigh-ready = let few = at .fit .few in record { small = at .fit .small; few = omega (arith, same-length); fall = rw (at .order) (sort-falls J amounts (at .fit .each)) }
-
+module _ (l : Level) {J : ℕ} {s : List ℕ} (falling : Falling J s) where
   -- the sum that is weighed, read back from its bits
   abbrev whole : ℕ
-  whole = natural l J amounts (at .fit .few) (at .fit .each)
+  whole = byParts l J s (length s)
 
-  module _ {sum : ℤ} (fits : mag sum < 2 ^ 63) (weighed : sum ≡ hundredths l J sorted (length sorted)) where
+  in-order : precisionOf l J s ≡ roundUp (hundredths l J s (length s))
+  unfolding precisionOf
+  in-order = ap (λ (r : List ℕ). roundUp (hundredths l J r (length s))) (sort-fallen J s (falling .fall))
+
+  module _ {sum : ℤ} (fits : mag sum < 2 ^ 63) (weighed : sum ≡ hundredths l J s (length s)) where
     abbrev read : ℤ
     read = toZ w64 (ofZ w64 sum)
 
+    natural-sum : hundredths l J s (length s) ≡ pos whole
+    natural-sum = in-naturals (record { few = falling .few; fall = falling .fall }) (length s) (omega arith)
+
     is-whole : read ≡ pos whole
-    is-whole = back _ _ fits (weighed ∙ (λ i. hundredths l J (at .order i) (same-length i)) ∙ natural-is l J amounts (at .fit .few) (at .fit .each))
+    is-whole = back _ _ fits (weighed ∙ natural-sum)
 
     pub read-small : natAbs read < 2 ^ 62
-    read-small =
-        let most : whole < 2 ^ 62 =
-        sum-small l (record { small = at .fit .small; few = omega (arith, at .fit .few, length-sort amounts); fall = sort-falls J amounts (at .fit .each) }) (length amounts) (omega (arith, length-sort amounts)) in
-        omega (arith, ap natAbs is-whole)
+    read-small = let most : whole < 2 ^ 62 = sum-small l falling (length s) (omega arith) in omega (arith, ap natAbs is-whole)
 
     pub read-positive : T (nonNeg read)
     read-positive = subst⁻¹ (λ (z : ℤ). T (nonNeg z)) is-whole tt
 
-    pub rounded : PrecisionPromise l J amounts ((natAbs read + 99) / 100) sorted
-    rounded =
-        record { answer = ap (λ (n : ℕ). pos ((n + 99) / 100)) (ap natAbs is-whole) ∙ sym (in-hundreds l J amounts (at .fit .few) (at .fit .each)); amounts-left = at .order }
+    pub rounded : pos ((natAbs read + 99) / 100) ≡ precisionOf l J s
+    unfolding roundUp
+    rounded = ap (λ (n : ℕ). pos ((n + 99) / 100)) (ap natAbs is-whole) ∙ sym (in-order ∙ ap roundUp natural-sum)

@@ -9,7 +9,7 @@ use native.Mathlib.Omega.{arith}
 use native.Mathlib.Nat.{add-zero, zero-add, mul-comm, mul-add, add-mul, mul-le-mul, mul-le-mul-right, lt-of-le-of-lt, lt-of-lt-of-le, le-trans, not-suc-le-zero, le-of-suc-le-suc}
 use lib.Dec.{lit<, lit≤}
 use lib.ListN.{length, getD}
-use lib.IntN.{ℤ, pos, subℕ, _+ℤ_, _*ℤ_}
+use lib.IntN.{ℤ, pos, subℕ, _+ℤ_, _-ℤ_, _*ℤ_}
 use mir.Syntax.{w64}
 use lib.Signed.{mag}
 use mir.Val.{Fits, SFits, toZ, ofZ}
@@ -17,7 +17,8 @@ use mir.ValLaws.{toZ-pos}
 use Rattle.terms.specs.Limits.{mostTotal}
 use Rattle.terms.proofs.Differences.{back, sub-ge, minus, sub-add, sub-mul, mag-sub}
 use Rattle.factors.specs.declared.Level.{Level}
-use Rattle.factors.specs.Factors.{rf, stepOf, Reliability}
+use Rattle.factors.specs.Factors.{rf, factorsOf, stepOf}
+use Rattle.factors.proofs.Rows.{factors-at, step-read}
 use Rattle.factors.proofs.Shape.{rf-hundreds, rf-top}
 use Rattle.factors.proofs.Steps.{step-is, step-small}
 use Rattle.sorting.specs.Sorting.{Falls}
@@ -73,10 +74,10 @@ pub record Fallen (l : Level) (J : ℕ) (s : List ℕ) : Type 0 where
   pub few : length s < 64
   pub fall : Falls J s
 
--- where `weigh` stands: the sum after i turns is the definition's after i amounts
-pub record Weighed (l : Level) (J : ℕ) (s : List ℕ) (sum i : ℕ) : Type 0 where
+-- where `weigh` stands: the sum after i turns is the definition's after i amounts, at the level whose row it is
+pub record Weighed (J : ℕ) (row s : List ℕ) (sum i : ℕ) : Type 0 where
   pub inside : i ≤ length s
-  pub value : toZ w64 sum ≡ hundredths l J s i
+  pub value : (l : Level) → row ≡ factorsOf l → toZ w64 sum ≡ hundredths l J s i
 
 module _ {l : Level} {J : ℕ} {s : List ℕ} (at : Fallen l J s) where
   next-part : (k : ℕ) → k < length s → byParts l J s (suc k) + (rf l k + 100) * getD s k 0 ≡ byParts l J s k + rf l (suc k) * getD s k 0
@@ -121,54 +122,61 @@ fallen l f = record { few = f .few; fall = f .fall }
 pub sum-small : (l : Level) {J : ℕ} {s : List ℕ} → Falling J s → (k : ℕ) → k ≤ length s → byParts l J s k < 2 ^ 62
 sum-small l {J} {s} f k h = let small = f .small in omega (arith, by-parts-most (fallen l f) k h)
 
--- J times a factor fits with a sign, and J × RF(0) is the first sum, as `weigh` makes it
-module _ (l : Level) (J k f : ℕ) (s : List ℕ) (falling : Falling J s) (factor : Reliability l k f) where
-  below : J * f < 2 ^ 63
-  below = lt-of-le-of-lt (mul-le-mul {n₁ = J} {m₁ = f} {n₂ = mostTotal} {m₂ = 8407} (falling .small) (omega (arith, factor .value, rf-top l k))) (lit< tt)
+-- J times a factor of the row fits with a sign, and J × RF(0) is the first sum, as `weigh` makes it
+module _ (J k f : ℕ) (row s : List ℕ) (falling : Falling J s) (read : f ≡ getD row k 0) (inside : k < 64) where
+  value : (l : Level) → row ≡ factorsOf l → f ≡ rf l k
+  value l own = read ∙ ap (λ (r : List ℕ). getD r k 0) own ∙ factors-at l k inside
 
-  pub first-fits : Fits w64 (J * f)
-  first-fits = record { fits = lt-of-lt-of-le below (lit≤ tt) }
+  below : (l : Level) → row ≡ factorsOf l → J * f < 2 ^ 63
+  below l own = lt-of-le-of-lt (mul-le-mul {n₁ = J} {m₁ = f} {n₂ = mostTotal} {m₂ = 8407} (falling .small) (omega (arith, value l own, rf-top l k))) (lit< tt)
 
-  pub first-casts : SFits w64 (pos (J * f))
-  first-casts = record { sfits = below }
+  pub first-fits : (l : Level) → row ≡ factorsOf l → Fits w64 (J * f)
+  first-fits l own = record { fits = lt-of-lt-of-le (below l own) (lit≤ tt) }
 
-pub weigh-begin : (l : Level) (J k f : ℕ) (s : List ℕ) → Falling J s → Reliability l k f → k ≡ 0 → Weighed l J s (J * f) 0
-unfolding hundredths
-weigh-begin l J k f s falling factor first =
-    record { inside = zero-le; value = toZ-pos w64 (J * f) (below l J k f s falling factor) ∙ ap (λ (r : ℕ). pos (J * r)) (factor .value ∙ ap (rf l) first) }
+  pub first-casts : (l : Level) → row ≡ factorsOf l → SFits w64 (pos (J * f))
+  first-casts l own = record { sfits = below l own }
 
--- one amount more
-module _ (l : Level) (J : ℕ) (s : List ℕ) (sum i : ℕ) (step : ℤ) (falling : Falling J s) (at : Weighed l J s sum i) (more : i < length s) (fits : mag step < 2 ^ 63) (is-step : step ≡ stepOf l (i + 1)) where
-  read : toZ w64 (ofZ w64 step) ≡ stepOf l (i + 1)
-  read = back _ _ fits is-step
+  pub weigh-begin : k ≡ 0 → Weighed J row s (J * f) 0
+  unfolding hundredths
+  weigh-begin first =
+      record { inside = zero-le; value = λ l own. toZ-pos w64 (J * f) (below l own) ∙ ap (λ (r : ℕ). pos (J * r)) (value l own ∙ ap (rf l) first) }
 
+-- one amount more, times the step between two neighbours of the row
+module _ (J : ℕ) (row s : List ℕ) (sum i p q : ℕ) (step : ℤ) (falling : Falling J s) (at : Weighed J row s sum i) (more : i < length s) (fits : mag step < 2 ^ 63)
+    (made : step ≡ (pos (getD row q 0) -ℤ pos (getD row p 0)) -ℤ pos 100) (from : p ≡ i) (to : q ≡ i + 1) where
   small-amount : getD s i 0 ≤ mostTotal
   small-amount = le-trans (falls-up-to J s (falling .fall) i more) (falling .small)
 
-  next-sum : toZ w64 sum +ℤ toZ w64 (ofZ w64 step) *ℤ pos (getD s i 0) ≡ hundredths l J s (i + 1)
-  unfolding hundredths
-  next-sum = rw (at .value, read, add-one)
+  module _ (l : Level) (own : row ≡ factorsOf l) where
+    read : toZ w64 (ofZ w64 step) ≡ stepOf l (i + 1)
+    read =
+        let few = falling .few in
+        back _ _ fits (made ∙ ap (λ (r : List ℕ). (pos (getD r q 0) -ℤ pos (getD r p 0)) -ℤ pos 100) own ∙ step-read l i p q from to (omega arith))
 
-  product-fits : SFits w64 (toZ w64 (ofZ w64 step) *ℤ pos (getD s i 0))
-  product-fits =
-      let a = getD s i 0 in
-      let small = step-small l (i + 1) in
-      let two : 2 ≤ 2 = omega arith in
-      rw (read, small .from, sub-mul (small .above) 2 a)
-      (record { sfits = mag-sub (small .above * a) (2 * a) (lt-of-le-of-lt (mul-le-mul (small .most) small-amount) (lit< tt)) (lt-of-le-of-lt (mul-le-mul two small-amount) (lit< tt)) })
+    next-sum : toZ w64 sum +ℤ toZ w64 (ofZ w64 step) *ℤ pos (getD s i 0) ≡ hundredths l J s (i + 1)
+    unfolding hundredths
+    next-sum = rw (at .value l own, read, add-one)
 
-  pub one-fits : OneFits (toZ w64 sum) (toZ w64 (ofZ w64 step)) (getD s i 0)
-  one-fits =
-      record {
-        small = small-amount;
-        product = product-fits;
-        added = rw (next-sum, in-naturals (fallen l falling) (i + 1) (omega arith)) (record { sfits = omega (arith, sum-small l falling (i + 1) (omega arith)) });
-      }
+    product-fits : SFits w64 (toZ w64 (ofZ w64 step) *ℤ pos (getD s i 0))
+    product-fits =
+        let a = getD s i 0 in
+        let small = step-small l (i + 1) in
+        let two : 2 ≤ 2 = omega arith in
+        rw (read, small .from, sub-mul (small .above) 2 a)
+        (record { sfits = mag-sub (small .above * a) (2 * a) (lt-of-le-of-lt (mul-le-mul (small .most) small-amount) (lit< tt)) (lt-of-le-of-lt (mul-le-mul two small-amount) (lit< tt)) })
 
-  pub weigh-turn : (r : ℤ) → mag r < 2 ^ 63 → r ≡ toZ w64 sum +ℤ toZ w64 (ofZ w64 step) *ℤ pos (getD s i 0) → Weighed l J s (ofZ w64 r) (i + 1)
-  weigh-turn r small e = record { inside = omega arith; value = back _ _ small (e ∙ next-sum) }
+    pub one-fits : OneFits (toZ w64 sum) (toZ w64 (ofZ w64 step)) (getD s i 0)
+    one-fits =
+        record {
+          small = small-amount;
+          product = product-fits;
+          added = rw (next-sum, in-naturals (fallen l falling) (i + 1) (omega arith)) (record { sfits = omega (arith, sum-small l falling (i + 1) (omega arith)) });
+        }
 
-pub weigh-end : (l : Level) (J : ℕ) (s : List ℕ) (sum i : ℕ) → Weighed l J s sum i → length s ≤ i → toZ w64 sum ≡ hundredths l J s (length s)
-weigh-end l J s sum i at h =
+  pub weigh-turn : (r : ℤ) → mag r < 2 ^ 63 → r ≡ toZ w64 sum +ℤ toZ w64 (ofZ w64 step) *ℤ pos (getD s i 0) → Weighed J row s (ofZ w64 r) (i + 1)
+  weigh-turn r small e = record { inside = omega arith; value = λ l own. back _ _ small (e ∙ next-sum l own) }
+
+pub weigh-end : (l : Level) (J : ℕ) (row s : List ℕ) (sum i : ℕ) → Weighed J row s sum i → row ≡ factorsOf l → length s ≤ i → toZ w64 sum ≡ hundredths l J s (length s)
+weigh-end l J row s sum i at own h =
     let all : i ≡ length s = omega (arith, at .inside) in
-    rw all at (at .value)
+    rw all at (at .value l own)

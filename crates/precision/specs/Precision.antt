@@ -1,5 +1,4 @@
 -- Step 6, the precision: signed steps times the amounts sorted downwards, rounded up once at the end. Definitions: nothing is assumed.
-use mathlib.Core.Path.{_≡_}
 use mathlib.Core.List.{List}
 use Prim.Native.Nat.{ℕ, zero, suc, _+_, _*_, _/_, _≤_, _<_}
 use lib.ListN.{length, getD}
@@ -7,7 +6,6 @@ use lib.IntN.{ℤ, pos, negsuc, negℤ, natAbs, _+ℤ_, _*ℤ_}
 use mir.Syntax.{w64}
 use mir.Val.{SFits}
 use Rattle.terms.specs.Limits.{mostTotal}
-use Rattle.terms.specs.Numbers.{AllUpTo}
 use Rattle.factors.specs.declared.Level.{Level}
 use Rattle.factors.specs.Factors.{rf, stepOf}
 use Rattle.sorting.specs.Sorting.{sortDown, Falls}
@@ -30,13 +28,7 @@ precisionOf level J amounts = roundUp (hundredths level J (sortDown amounts) (le
 abbrev pub precisionCents : Level → ℕ → List ℕ → ℕ
 precisionCents level J amounts = natAbs (precisionOf level J amounts)
 
--- amounts that are fit to be weighed, in whatever order they come
-pub record Weighable (J : ℕ) (amounts : List ℕ) : Type 0 where
-  pub small : J ≤ mostTotal
-  pub few : length amounts < 64
-  pub each : AllUpTo J amounts
-
--- the same, once they fall
+-- amounts that are fit to be weighed: they fall
 pub record Falling (J : ℕ) (amounts : List ℕ) : Type 0 where
   pub small : J ≤ mostTotal
   pub few : length amounts < 64
@@ -47,8 +39,3 @@ pub record OneFits (sum step : ℤ) (amount : ℕ) : Type 0 where
   pub small : amount ≤ mostTotal
   pub product : SFits w64 (step *ℤ pos amount)
   pub added : SFits w64 (sum +ℤ step *ℤ pos amount)
-
--- what `precision` promises: the answer, and the amounts, which are left sorted
-pub record PrecisionPromise (level : Level) (J : ℕ) (amounts : List ℕ) (r : ℕ) (amounts′ : List ℕ) : Type 0 where
-  pub answer : pos r ≡ precisionOf level J amounts
-  pub amounts-left : amounts′ ≡ sortDown amounts

@@ -4,14 +4,15 @@ use Prim.Native.Nat.{ℕ, suc, _+_, _≤_, _<_, zero-le}
 use native.Mathlib.Nat.{add-zero, zero-add, add-assoc}
 use native.Mathlib.Numerals.{add-one}
 use native.Mathlib.Omega.{arith}
-use mathlib.Core.Path.{_≡_, refl, sym, ap, _∙_}
+use mathlib.Core.Path.{_≡_, refl, sym, ap, _∙_, subst}
 use mathlib.Core.List.{List, _∷_}
-use lib.ListN.{length, getD, drop}
+use lib.ListN.{length, getD, take, drop}
 use lib.Seq.{drop-cons}
 use Rattle.terms.specs.declared.Refusal.{Refusal}
 use Rattle.terms.specs.Outcome.{Outcome, accepted, refused, refusedBy, after, left}
 use Rattle.terms.specs.Numbers.{sum}
 use Rattle.terms.proofs.Outcomes.{after-accepted, refused-first}
+use Rattle.sorting.specs.Sorting.{Sorted}
 use Rattle.draw.specs.Row.{rowCents}
 use Rattle.draw.proofs.Laws.{row-on}
 use Rattle.draw.proofs.Row.{row-sum}
@@ -32,7 +33,7 @@ use Rattle.project.specs.Gather.{keptBy, keptFrom, keptOf, GatherPromise
 use Rattle.project.proofs.Lines.{lines-walked, walk-on, walk-end}
 use Rattle.project.proofs.Checking.{Sound, checked-sound}
 use Rattle.project.proofs.Facts.{line-facts}
-use Rattle.project.proofs.Kept.{kept-length}
+use Rattle.project.proofs.Kept.{kept-length, kept-sorted}
 
 -- one line, as `pass_line` meets it
 module _ (item v e J : ℕ) (at : Progress) (amounts : List ℕ) (line : LineAnswer) (checked : lineSays line ≡ checkedLine item (lineAt J (at .next .0) v e)) where
@@ -52,7 +53,7 @@ module _ (item v e J : ℕ) (at : Progress) (amounts : List ℕ) (line : LineAns
     same = let w = sym (sound .passes) ∙ sym is-known in cc
 
     -- what a line adds fits
-    pub pass-fits : Room J v (at .sums) → Fits (at .sums) k
+    pub pass-fits : Room J v (at .sums) amounts → Fits (at .sums) k
     pass-fits room =
         let f = line-facts J (at .next .0) v e (sound .within) in
         rw (← same) (record { full = omega (arith, f .full, room .full); sampled = omega (arith, f .small, room .sampled); m = omega (arith, f .one, room .m) })
@@ -88,6 +89,7 @@ pub record Gathering (first J start : ℕ) (ledger errors before : List ℕ) (at
   pub answer : answerFrom (first + line) J at (drop line ledger) (drop line errors) ≡ projectionAt first J start ledger errors
   pub kept : keptAfter (first + line) J at (drop line ledger) (drop line errors) amounts ≡ keptOf first J start ledger errors before
   pub same : length amounts ≡ length before
+  pub fall : Sorted (take (at .sums .m) amounts)
 
 abbrev none : Projection
 none = record { full = 0; sampled = 0; m = 0 }
@@ -109,6 +111,7 @@ gathering-none first J start ledger errors before early =
       answer = λ i. after (λ lines. accepted (added-none lines i)) (checkedFrom (add-zero first i) (walked i));
       kept = λ i. keptFrom (add-zero first i) (walked i) 0 before;
       same = refl;
+      fall = tt;
     }
 
 -- one line's outcome, and what follows it
@@ -144,13 +147,14 @@ module _ {first J start : ℕ} {ledger errors before : List ℕ} {at : Progress}
     tail : sum (drop line ledger) ≡ v + sum (drop (line + 1) ledger)
     tail = rw (drop-cons ledger line 0, add-one)
 
-    pub gathering-room : Ready first J start ledger errors → Room J v (at .sums)
+    pub gathering-room : Ready first J start ledger errors → Room J v (at .sums) amounts
     gathering-room r =
         record {
           narrow = r .narrow;
           full = omega (arith, by .full-room, tail, r .summed);
           sampled = omega (arith, by .sampled-room, by .close, r .narrow, r .summed, row-sum J ledger);
           m = omega (arith, by .few, r .few);
+          fall = by .fall;
         }
 
     module _ {r : PassAnswer} {amounts′ : List ℕ} (p : PassPromise (first + line) v (getD errors line 0) J at amounts r amounts′) where
@@ -204,4 +208,5 @@ module _ {first J start : ℕ} {ledger errors before : List ℕ} {at : Progress}
             answer = rw place (sym (added-more (at .sums) here (checkedFrom (suc (first + line)) later)) ∙ answer-on (accepted here) (s .passes));
             kept = rw (place, kept-is (accepted here) (s .passes)) (kept-on (accepted here) (s .passes));
             same = ap length (kept-is (accepted here) (s .passes)) ∙ kept-length amounts (at .sums .m) (here .state) (here .error) ∙ by .same;
+            fall = subst (λ (l : List ℕ). Sorted (take (addedTo (at .sums) here .m) l)) (sym (kept-is (accepted here) (s .passes))) (kept-sorted amounts (at .sums .m) (here .state) (here .error) (by .fall));
           })

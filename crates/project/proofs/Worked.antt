@@ -9,8 +9,10 @@ use Rattle.split.specs.Rounds.{rounds}
 use Rattle.split.specs.Split.{splitOf, figuresFrom}
 use Rattle.draw.specs.Points.{points, covers}
 use Rattle.split.specs.Start.{figuresFor}
+use Rattle.sorting.specs.Sorting.{insertDown, placed}
 use Rattle.project.specs.Lines.{amount, linesFrom, linesOf, total, amountsOf}
 use Rattle.project.specs.Project.{checkedLine, checkedFrom, checkedLines, projectionAt, projectOf}
+use Rattle.project.specs.Gather.{keptBy, keptFrom, keptOf}
 
 abbrev claims : List ℕ
 claims = 30 ∷ 30 ∷ 40 ∷ 20 ∷ []
@@ -43,3 +45,9 @@ no-interval = refl
 pub final-interval : projectOf (500 ∷ 120 ∷ 0 ∷ 80 ∷ 300 ∷ []) 4 79 (1 ∷ 0 ∷ 0 ∷ 7 ∷ 2 ∷ []) ≡ accepted (record { full = 3; sampled = 7; m = 1 })
 unfolding projectOf figuresFor splitOf figuresFrom ledgerOf runningTotal runningFrom rounds projectionAt checkedLines checkedFrom checkedLine linesOf linesFrom total amount covers points divUp
 final-interval = refl
+
+-- amounts of 4, 20 and 12, in ledger order: each goes to its sorted place, and where there is room for two the third is dropped and none moves
+pub in-place : (keptOf 0 40 25 claims (3 ∷ 0 ∷ 20 ∷ 6 ∷ []) (0 ∷ 0 ∷ 0 ∷ []) ≡ 20 ∷ 12 ∷ 4 ∷ [])
+    × (keptOf 0 40 25 claims (3 ∷ 0 ∷ 20 ∷ 6 ∷ []) (0 ∷ 0 ∷ []) ≡ 20 ∷ 4 ∷ [])
+unfolding keptOf keptFrom keptBy placed insertDown checkedLine linesOf linesFrom amount covers points divUp
+in-place = (refl, refl)

@@ -3,10 +3,11 @@ use Prim.Native.Nat.{ℕ, suc, _+_, _^_, _≤_, _<_}
 use mathlib.Core.Path.{_≡_}
 use mathlib.Core.List.{List, [], _∷_}
 use lib.Dec.{ltb}
-use lib.ListN.{getD, drop, set}
+use lib.ListN.{getD, take, drop}
 use Rattle.terms.specs.Outcome.{Outcome, accepted, refusedBy, after, left}
 use Rattle.terms.specs.Numbers.{pick}
 use Rattle.terms.specs.Limits.{mostInterval}
+use Rattle.sorting.specs.Sorting.{Sorted, placed}
 use Rattle.draw.specs.Row.{full}
 use Rattle.walk.specs.Walk.{aheadAfter}
 use Rattle.project.specs.declared.{State.State, Line.Line, Projection.Projection, ProjectAnswer.ProjectAnswer, Progress.Progress, PassAnswer.PassAnswer}
@@ -36,10 +37,10 @@ pub record Fits (sums : Projection) (line : Line) : Type 0 where
   pub sampled : addedTo sums line .sampled < 2 ^ 64
   pub m : addedTo sums line .m < 2 ^ 64
 
--- the amount of a drawn line with an error above 0 stands at the place m; past the end of the list it is dropped
+-- the amount of a drawn line with an error above 0 goes to its place among the m before it; past the end of the list it is dropped
 unfoldable pub keptBy : List ℕ → ℕ → State → ℕ → List ℕ
 keptBy amounts m State.NotDrawn error = amounts
-keptBy amounts m (State.Drawn projected) error = pick (ltb 0 error) (set amounts m projected) amounts
+keptBy amounts m (State.Drawn projected) error = pick (ltb 0 error) (placed amounts m projected) amounts
 keptBy amounts m State.Full error = amounts
 
 -- line by line, from an item's number on and with m amounts kept before it, until a line is refused
@@ -58,12 +59,13 @@ pub record GatherPromise (item J start : ℕ) (ledger errors amounts : List ℕ)
   pub answer : projectSays r ≡ projectionAt item J start ledger errors
   pub amounts-left : amounts′ ≡ keptOf item J start ledger errors amounts
 
--- one line, as `gather` passes it: there is room for what it adds
-pub record Room (J value : ℕ) (sums : Projection) : Type 0 where
+-- one line, as `gather` passes it: there is room for what it adds, and the amounts before it fall
+pub record Room (J value : ℕ) (sums : Projection) (amounts : List ℕ) : Type 0 where
   pub narrow : J ≤ mostInterval
   pub full : sums .full + value < 2 ^ 64
   pub sampled : sums .sampled + J < 2 ^ 64
   pub m : sums .m + 1 < 2 ^ 64
+  pub fall : Sorted (take (sums .m) amounts)
 
 abbrev pub passSays : PassAnswer → Outcome Progress
 passSays (PassAnswer.Further progress) = accepted progress

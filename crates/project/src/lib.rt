@@ -6,7 +6,9 @@ use terms::Refusal;
 use walk::Ahead;
 ghost use mathlib.Core.Path.{_≡_};
 ghost use Prim.Native.Nat.{_<_, _≤_};
+ghost use lib.ListN.{take};
 ghost use Rattle.terms.specs.Limits.{mostInterval};
+ghost use Rattle.sorting.specs.Sorting.{Sorted};
 ghost use Rattle.project.specs.Lines.{amount};
 ghost use Rattle.project.specs.Project.{lineSays, checkedLine, Ready, ProjectPromise};
 ghost use Rattle.project.specs.Gather.{lineAt, addedTo, Fits, keptBy, Room, PassPromise, GatherPromise};
@@ -155,26 +157,24 @@ fn added(sums: Projection, line: Line) -> Projection
     }
 }
 
-// Keeps the amount of a drawn line with an error above 0 at the place m, while there is room.
+// Puts the amount of a drawn line with an error above 0 in its place among the m before it, which fall, while there is room.
 fn keep(amounts: &mut [u64], m: u64, line: Line)
+    requires { ⌜ Sorted (take m (now amounts)) ⌝ }
     ensures { λ _. ⌜ now (amounts .exit) ≡ keptBy (now (amounts .entry)) m (line .state) (line .error) ⌝ }
 {
     let state = line.state;
-    let place = m as usize;
     match state {
         State::NotDrawn => {}
         State::Drawn(amount) => {
             if line.error > 0 {
-                if place < amounts.len() {
-                    amounts[place] = amount;
-                }
+                sorting::insert_down(amounts, m as usize, amount);
             }
         }
         State::Full => {}
     }
 }
 
-// One line is passed: checked, its amount kept, added to the sums, and walked over.
+// One line is passed: checked, added to the sums, its amount kept, and walked over.
 fn pass_line(
     item: Item,
     value: u64,
@@ -183,7 +183,7 @@ fn pass_line(
     at: Progress,
     amounts: &mut [u64],
 ) -> PassAnswer
-    requires { ⌜ Room interval value (at .sums) ⌝ }
+    requires { ⌜ Room interval value (at .sums) (now amounts) ⌝ }
     ensures { λ r. ⌜ PassPromise (item .0) value error interval at (now (amounts .entry)) r (now (amounts .exit)) ⌝ }
 {
     let before = at.sums;
@@ -191,16 +191,16 @@ fn pass_line(
     match checked_line(item, value, error, interval, here) {
         LineAnswer::Refused(why) => PassAnswer::Refused(why),
         LineAnswer::Known(line) => {
-            keep(amounts, before.m, line);
             let sums = added(before, line);
+            keep(amounts, before.m, line);
             let next = walk::step_over(value, interval, here);
             PassAnswer::Further(Progress { sums, next })
         }
     }
 }
 
-// Checks and adds the lines, one by one, the first of which has the number `first`, and keeps the amounts in ledger order, as many
-// as there is room for.
+// Checks and adds the lines, one by one, the first of which has the number `first`, and puts each amount in its sorted place as it
+// arrives, while there is room.
 pub fn gather(
     first: Item,
     ledger: &[u64],

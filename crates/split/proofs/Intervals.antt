@@ -25,11 +25,11 @@ lastOr j [] = j
 lastOr j (x ∷ l) = lastOr x l
 
 module _ (m : ℕ) (l : List ℕ) (d : ℕ) where
-  intervals-done : length (fullOf l d) ≡ 0 → intervals (suc m) l d ≡ intervalOf l d ∷ []
+  pub intervals-done : length (fullOf l d) ≡ 0 → intervals (suc m) l d ≡ intervalOf l d ∷ []
   unfolding intervals
   intervals-done e = simp (eq-eqb _ _ e)
 
-  intervals-again : (length (fullOf l d) ≡ 0 → ⊥) → intervals (suc m) l d ≡ intervalOf l d ∷ intervals m (linesAfter l d) (drawsAfter l d)
+  pub intervals-again : (length (fullOf l d) ≡ 0 → ⊥) → intervals (suc m) l d ≡ intervalOf l d ∷ intervals m (linesAfter l d) (drawsAfter l d)
   unfolding intervals
   intervals-again e = simp (ne-eqb _ _ e)
 

@@ -8,4 +8,5 @@ pub mod Rest
 pub mod Answer
 pub mod Facts
 pub mod Start
+pub mod Ending
 pub mod Worked

@@ -65,10 +65,6 @@ above-nothing j b (v ∷ l) h =
     let ih = above-nothing j b l h in
     ⊎-elim (λ (p : v ≤ b). let q : v ≤ j = omega arith in simp (le-leb _ _ p, le-ltb _ _ q) ih) (λ (p : b < v). simp (lt-leb _ _ p) ih) (le-or-lt v b)
 
--- a part's total is at most the whole's
-pub between-sum : (low high : ℕ) (l : List ℕ) → sum (above low (upTo high l)) ≤ sum l
-between-sum low high l = omega (arith, sum-parts low (upTo high l), sum-parts high l)
-
 -- no line above 0 remains where J is 0: nothing is sampled
 pub upTo-zero : (l : List ℕ) → sum (upTo 0 l) ≡ 0
 upTo-zero [] = refl

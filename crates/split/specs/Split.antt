@@ -1,5 +1,5 @@
 -- Step 2, the split: its answer for every ledger, number of draws and length of the marks, and the marks. Definitions: nothing is assumed.
-use Prim.Native.Nat.{ℕ, _≤_}
+use Prim.Native.Nat.{ℕ, _+_, _≤_, _<_}
 use mathlib.Core.Path.{_≡_}
 use mathlib.Core.List.{List, map}
 use lib.ListN.{length}
@@ -8,8 +8,8 @@ use Rattle.terms.specs.Outcome.{Outcome, accepted, refused, refusedBy, after, l
 use Rattle.terms.specs.Numbers.{pick, sum}
 use Rattle.terms.specs.Limits.{mostTotal}
 use Rattle.ledger.specs.Ledger.{ledgerOf}
-use Rattle.split.specs.Rounds.{above, Rest, splitLines}
-use Rattle.split.specs.declared.{Figures.Figures, Sampled.Sampled, SplitAnswer.SplitAnswer}
+use Rattle.split.specs.Rounds.{above, upTo, intervalOf, Rest, splitLines}
+use Rattle.split.specs.declared.{Figures.Figures, SplitAnswer.SplitAnswer}
 
 -- what an answer says: the figures, or a refusal's number and place
 abbrev pub splitSays : SplitAnswer → Outcome Figures
@@ -21,9 +21,16 @@ pub record Totalled (ledger : List ℕ) (total : ℕ) : Type 0 where
   pub added : total ≡ sum ledger
   pub most : total ≤ mostTotal
 
--- the end of the rounds with the total of the lines that remain, as the recursion hands it on
-abbrev pub sampled : Rest → Sampled
-sampled r = record { interval = r .interval; «draws_left» = r .draws; total = sum (r .lines) }
+-- What a round starts from: the lines above some bound are full, and each has used a draw; the others, whose total is `rest`, remain with
+-- the draws that are left, at least one. Their interval is not above the bound, and their split ends where that of the whole ledger does.
+pub record Remaining (ledger : List ℕ) (n total draws rest : ℕ) : Type 0 where
+  pub bound : ℕ
+  pub whole : Totalled ledger total
+  pub some : 0 < draws
+  pub used : draws + length (above bound ledger) ≡ n
+  pub remains : rest ≡ sum (upTo bound ledger)
+  pub lower : intervalOf (upTo bound ledger) draws ≤ bound
+  pub same : splitLines (upTo bound ledger) draws ≡ splitLines ledger n
 
 -- the figures: full are the lines above the final J
 abbrev pub figuresOf : List ℕ → Rest → Figures

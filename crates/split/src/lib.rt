@@ -6,8 +6,8 @@ ghost use mathlib.Core.Path.{_≡_};
 ghost use Prim.Native.Nat.{_<_, _^_};
 ghost use lib.ListN.{length};
 ghost use Rattle.terms.specs.Numbers.{sum};
-ghost use Rattle.split.specs.Rounds.{above, upTo, splitLines};
-ghost use Rattle.split.specs.Split.{Totalled, splitSays, sampled, figuresOf, figuresFrom, fullMarks, FiguresPromise, SplitPromise};
+ghost use Rattle.split.specs.Rounds.{above, splitLines};
+ghost use Rattle.split.specs.Split.{Totalled, Remaining, splitSays, figuresOf, figuresFrom, fullMarks, FiguresPromise, SplitPromise};
 ghost use Rattle.split.specs.Start.{startIn, figuresAt, FiguresForPromise};
 
 // The final interval and what it leaves: the draws, the sampled lines' total, the full lines and their total.
@@ -24,59 +24,47 @@ pub enum SplitAnswer {
     Refused(Refusal),
 }
 
-// Where the rounds end: the interval, the draws left and the total of the lines that remain.
-struct Sampled {
-    interval: u64,
-    draws_left: u64,
-    total: u64,
-}
-
 // Some lines: how many, and their total.
 struct Part {
     lines: u64,
     total: u64,
 }
 
-// The lines above `low` that are not above `high`.
-fn between(ledger: &[u64], low: u64, high: u64) -> Part
+// The lines above an interval.
+fn lines_above(ledger: &[u64], interval: u64) -> Part
     requires { ⌜ sum (now ledger) < 2 ^ 64 ⌝ }
-    ensures { λ r. ⌜ (r .lines ≡ length (above low (upTo high (now (ledger .entry)))))
-        × (r .total ≡ sum (above low (upTo high (now (ledger .entry))))) ⌝ }
+    ensures { λ r. ⌜ (r .lines ≡ length (above interval (now (ledger .entry))))
+        × (r .total ≡ sum (above interval (now (ledger .entry)))) ⌝ }
 {
     let mut lines: u64 = 0;
     let mut total: u64 = 0;
     let mut i: usize = 0;
     while i < ledger.len() {
         let value = ledger[i];
-        if value > low {
-            if value <= high {
-                lines += 1;
-                total += value;
-            }
+        if value > interval {
+            lines += 1;
+            total += value;
         }
         i += 1;
     }
     Part { lines, total }
 }
 
-// The split of the lines that are not above `bound`, whose total is `total`. The interval never grows, so the lines that remain
-// after a round are those not above it: the split is made again on them, with fewer draws left, and always with one.
-fn split_rest(ledger: &[u64], bound: u64, total: u64, draws: u64) -> Sampled
-    requires { ⌜ (sum (now ledger) < 2 ^ 64) × (total ≡ sum (upTo bound (now ledger))) × (0 < draws) ⌝ }
-    ensures { λ r. ⌜ r ≡ sampled (splitLines (upTo bound (now (ledger .entry))) draws) ⌝ }
+// The rounds on the lines that remain, whose total is `rest`: answers the draws left at the end, and leaves the sampled lines' total
+// in `rest`. The interval never grows, so above it are the lines that are full and those that become full now. Where some do, the split
+// is made again with fewer draws left, and always with one.
+fn split_rest(ledger: &[u64], n: u64, total: u64, draws: u64, rest: &mut u64) -> u64
+    requires { ⌜ Remaining (now ledger) n total draws (now rest) ⌝ }
+    ensures { λ r. ⌜ (r ≡ splitLines (now (ledger .entry)) n .draws) × (now (rest .exit) ≡ sum (splitLines (now (ledger .entry)) n .lines)) ⌝ }
 {
-    let interval = total / draws;
-    let full = between(ledger, interval, bound);
-    if full.lines == 0 {
-        return Sampled {
-            interval,
-            draws_left: draws,
-            total,
-        };
+    let interval = *rest / draws;
+    let full = lines_above(ledger, interval);
+    let left = n - full.lines;
+    if left == draws {
+        return draws;
     }
-    let rest = total - full.total;
-    let left = draws - full.lines;
-    split_rest(ledger, interval, rest, left)
+    *rest = total - full.total;
+    split_rest(ledger, n, total, left, rest)
 }
 
 // The figures of the rounds, whatever the interval and the draws left.
@@ -84,13 +72,15 @@ pub fn figures_of(ledger: &[u64], n: u64, total: u64) -> Figures
     requires { ⌜ Totalled (now ledger) total × (0 < n) ⌝ }
     ensures { λ r. ⌜ r ≡ figuresOf (now (ledger .entry)) (splitLines (now (ledger .entry)) n) ⌝ }
 {
-    let rest = split_rest(ledger, total, total, n);
-    let full_lines = n - rest.draws_left;
-    let full_total = total - rest.total;
+    let mut sampled_total = total;
+    let draws_left = split_rest(ledger, n, total, n, &mut sampled_total);
+    let interval = sampled_total / draws_left;
+    let full_lines = n - draws_left;
+    let full_total = total - sampled_total;
     Figures {
-        interval: rest.interval,
-        draws_left: rest.draws_left,
-        sampled_total: rest.total,
+        interval,
+        draws_left,
+        sampled_total,
         full_lines,
         full_total,
     }

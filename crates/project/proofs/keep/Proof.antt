@@ -1,8 +1,7 @@
--- `project::keep` meets its contract: at each end of the match the state is the arm's, and the tests say whether the amount is kept.
+-- `project::keep` meets its contract: at each end of the match the state is the arm's, and the test says whether the amount is kept.
 -- Assumes nothing.
-use native.Mathlib.Omega.{arith}
 use borrow.Author.Needs.{needs}
-use Rattle.project.proofs.Kept.{kept-stored, kept-dropped, kept-no-error, kept-not-drawn, kept-full}
+use Rattle.project.proofs.Kept.{kept-placed, kept-no-error, kept-not-drawn, kept-full}
 use Rattle.project.proofs.keep.Statement.{statement}
 use Rattle.project.proofs.keep.Tie as tie
 
@@ -10,10 +9,9 @@ pub keep-spec : {M : Type 1} → statement M
 keep-spec =
     tie.close
     (tie.spec
-    (λ c. search needs) (λ c. search needs) (λ c. search needs) (λ c. search needs) (λ c. search needs)
+    (λ c. search needs) (λ c. search needs) (λ c κs. search needs) (λ c. search needs)
     (λ c. search kept-not-drawn)
     (λ c. search needs)
-    (λ c. kept-stored _ _ _ _ _ (search) (omega arith))
-    (λ c. search kept-dropped)
+    (λ c. search kept-placed)
     (λ c. search kept-no-error)
     (λ c. search kept-full))

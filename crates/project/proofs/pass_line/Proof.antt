@@ -8,8 +8,9 @@ pub pass-line-spec : {M : Type 1} → statement M
 pass-line-spec =
     tie.close
     (tie.spec
-    (λ c κs. search needs) (λ c. search needs) (λ c. search needs) (λ c κs. search needs)
+    (λ c κs. search needs) (λ c. search needs) (λ c. search needs)
     (λ c κs. search pass-fits)
+    (λ c κs. search needs)
     (λ c κs. search needs)
     (λ c. search pass-stops)
     (λ c. search needs)

@@ -1,6 +1,6 @@
 -- `split::figures_of` meets its contract: each answer is a law of the recursion's. Assumes nothing.
-use borrow.Author.Needs.{needs}
-use Rattle.split.proofs.Answer.{sum-small, sum-whole, draws-fit, total-fits, figures-are}
+use Rattle.split.proofs.Rest.{rest-first}
+use Rattle.split.proofs.Answer.{draws-some, draws-fit, total-fits, figures-are}
 use Rattle.split.proofs.figures_of.Statement.{statement}
 use Rattle.split.proofs.figures_of.Tie as tie
 
@@ -8,7 +8,8 @@ pub figures-of-spec : {M : Type 1} → statement M
 figures-of-spec =
     tie.close
     (tie.spec
-    (λ c κs. (search sum-small, search sum-whole, search needs))
+    (λ c κs. search rest-first)
+    (λ c. search draws-some)
     (λ c. search draws-fit)
     (λ c. search total-fits)
     (λ c. search figures-are))

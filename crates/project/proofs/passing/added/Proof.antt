@@ -1,8 +1,8 @@
--- `project::added` meets its contract, state by state. Assumes nothing.
+-- `project::passing::added` meets its contract, state by state. Assumes nothing.
 use borrow.Author.Needs.{needs}
 use Rattle.project.proofs.Adding.{adds-nothing, adds-error, adds-amount, adds-no-error, error-fits, amount-fits, count-fits}
-use Rattle.project.proofs.added.Statement.{statement}
-use Rattle.project.proofs.added.Tie as tie
+use Rattle.project.proofs.passing.added.Statement.{statement}
+use Rattle.project.proofs.passing.added.Tie as tie
 
 pub added-spec : {M : Type 1} → statement M
 added-spec =

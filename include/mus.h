@@ -5,7 +5,8 @@
  * 0 where the refusal names none), every figure is 0, and every lent buffer keeps its former content. Where several refusals
  * apply, the first is given in this order: 1, 2, 13; then 3 and 4 line by line; then 5 to 11; then 14 and 15 line by line; then 16.
  *
- * Money and numbers of draws are 64-bit, money in whole cents. Lines are numbered from 0. A list is a pointer and a number of entries;
+ * Money and numbers of draws are 64-bit, money in whole cents. Lines are numbered from 0. An error has a sign: above 0 the line is
+ * overstated, too much was claimed; below 0 it is understated, too little; 0 is no error. A list is a pointer and a number of entries;
  * the pointer may be null where that number is 0. Otherwise it is aligned as its type and reaches that many entries. What a pointer
  * without const reaches overlaps nothing else that is lent to the same call, and no other thread touches it during the call.
  * No function keeps a pointer, allocates, or has a state of its own: calls from several threads do not disturb each other.
@@ -19,12 +20,12 @@
  *     mus_split               192   144 + 48 r            4,464
  *     mus_start                56
  *     mus_draw                176   128 + 48 r            4,448
- *     mus_project             584   192 + 48 r            4,512
- *     mus_project_lines       616   224 + 48 r            4,544
- *     mus_judge             1,496   1,104 + 48 r          5,424
- *     mus_read                304
+ *     mus_project             616   224 + 48 r            4,544
+ *     mus_project_lines       680   288 + 48 r            4,608
+ *     mus_judge             1,560   1,168 + 48 r          5,488
+ *     mus_read                288
  *     mus_write               136
- *     mus_sheet            34,864   34,592 + 48 r        38,912
+ *     mus_sheet            34,920   34,656 + 48 r        38,976
  *
  * It was measured on the library as `rt staticlib mus` makes it (docs/PERFORMANCE.md). */
 #ifndef MUS_H
@@ -53,7 +54,7 @@ extern "C" {
 #define MUS_LONGEST_FILE UINT64_C(45663)
 
 /* The room that a sheet is printed into: no text is longer. */
-#define MUS_LONGEST_TEXT UINT64_C(184721)
+#define MUS_LONGEST_TEXT UINT64_C(184784)
 
 /* Why a call is refused. The comment names the place where it is not 0. */
 enum mus_refusal {
@@ -71,9 +72,9 @@ enum mus_refusal {
     MUS_START_OUT_OF_RANGE = 11,    /* the start is not below the interval, or not 0 where there is none */
     MUS_NO_WORD_PASSES = 12,        /* no random word passes; the number of words lent */
     MUS_LENGTHS_DIFFER = 13,        /* marks, errors or amounts differ from the ledger in length */
-    MUS_ERROR_ABOVE_VALUE = 14,     /* an error exceeds its line's value; the line */
-    MUS_ERROR_NOT_DRAWN = 15,       /* an error above 0 on a line not drawn and not full; the line */
-    MUS_TOO_MANY_ERRORS = 16,       /* more than MUS_MOST_ERRORS drawn lines with an error */
+    MUS_ERROR_ABOVE_VALUE = 14,     /* the size of an error exceeds its line's value; the line */
+    MUS_ERROR_NOT_DRAWN = 15,       /* an error other than 0 on a line not drawn and not full; the line */
+    MUS_TOO_MANY_ERRORS = 16,       /* more than MUS_MOST_ERRORS drawn lines are overstated */
     MUS_FILE_BREAKS_RULE = 17,      /* the working file breaks a rule; the byte */
     MUS_ROOM_TOO_SHORT = 18,        /* a lent file buffer or page is too short; the bytes or entries needed */
     MUS_NO_LEGAL_FILE = 19          /* the content has no legal file */
@@ -113,16 +114,20 @@ struct mus_draw_result {
 
 struct mus_project_result {
     uint64_t refusal, place;
-    uint64_t full;    /* the errors of the full lines, added */
-    uint64_t sampled; /* the projected amounts of the drawn lines, added */
-    uint64_t m;       /* the number of drawn lines with an error above 0 */
+    uint64_t full;          /* the overstatements of the full lines, added */
+    uint64_t sampled;       /* the projected amounts of the overstated drawn lines, added */
+    uint64_t m;             /* the number of overstated drawn lines */
+    uint64_t under_full;    /* the sizes of the full lines' understatements, added */
+    uint64_t under_sampled; /* the sizes of the understated drawn lines' projected amounts, added */
+    int64_t net;            /* full + sampled - under_full - under_sampled, with its sign */
 };
 
 struct mus_judge_result {
     uint64_t refusal, place;
-    uint64_t full, sampled, m; /* the projection */
+    uint64_t full, sampled, m, under_full, under_sampled; /* the projection */
+    int64_t net;                                          /* the projection's too: precision, limit and verdict do not see it */
     uint64_t precision;
-    uint64_t upper_limit; /* full + sampled + precision */
+    uint64_t upper_limit; /* full + sampled + precision: of overstatements alone */
     uint64_t verdict;     /* one of enum mus_verdict */
 };
 
@@ -158,26 +163,28 @@ struct mus_start_result mus_start(uint64_t interval, const uint64_t *words, size
  * 2, 13, 3, 4, 5, 8, 11. */
 struct mus_draw_result mus_draw(const uint64_t *ledger, size_t ledger_length, uint64_t n, uint64_t start, uint8_t *marks, size_t marks_length);
 
-/* The projection of the errors that were found: an entry for each line, 0 where there is none. A full line counts with its error, a
- * drawn line with error x interval / value, rounded up. Refusals 2, 13, 3, 4, 5, 8, 11, 14, 15. */
-struct mus_project_result mus_project(const uint64_t *ledger, size_t ledger_length, uint64_t n, uint64_t start, const uint64_t *errors, size_t errors_length);
+/* The projection of the errors that were found: an entry for each line, from -value to value, 0 where there is none. A full line counts with its
+ * error, a drawn line with size x interval / value, rounded up in size, and the error's sign. Overstatements and understatements are added
+ * apart. Refusals 2, 13, 3, 4, 5, 8, 11, 14, 15. */
+struct mus_project_result mus_project(const uint64_t *ledger, size_t ledger_length, uint64_t n, uint64_t start, const int64_t *errors, size_t errors_length);
 
 /* The same projection, line by line: answers what mus_project answers, and writes for each line what it projects into amounts, which has an
- * entry for each line: its error where it is full, its amount where it is drawn, 0 elsewhere. They add to full + sampled. A program
- * never has to multiply by the interval itself. Refusals 2, 13 (for errors or amounts), 3, 4, 5, 8, 11, 14, 15. */
-struct mus_project_result mus_project_lines(const uint64_t *ledger, size_t ledger_length, uint64_t n, uint64_t start, const uint64_t *errors, size_t errors_length, uint64_t *amounts, size_t amounts_length);
+ * entry for each line: its error where it is full, its amount with the error's sign where it is drawn, 0 elsewhere. They add to net. A
+ * program never has to multiply by the interval itself. Refusals 2, 13 (for errors or amounts), 3, 4, 5, 8, 11, 14, 15. */
+struct mus_project_result mus_project_lines(const uint64_t *ledger, size_t ledger_length, uint64_t n, uint64_t start, const int64_t *errors, size_t errors_length, int64_t *amounts, size_t amounts_length);
 
-/* The judgement: the projection with its precision at a level, its upper limit, and the verdict against the tolerable error TE.
- * Refusals 1, 2, 13, 3, 4, 5, 6, 8, 11, 14, 15, 16. */
-struct mus_judge_result mus_judge(uint8_t level, const uint64_t *ledger, size_t ledger_length, uint64_t n, uint64_t start, const uint64_t *errors, size_t errors_length, uint64_t te);
+/* The judgement: the projection with its precision at a level, its upper limit, and the verdict against the tolerable error TE. All three
+ * see overstatements alone: an understatement never helps a verdict. Refusals 1, 2, 13, 3, 4, 5, 6, 8, 11, 14, 15, 16. */
+struct mus_judge_result mus_judge(uint8_t level, const uint64_t *ledger, size_t ledger_length, uint64_t n, uint64_t start, const int64_t *errors, size_t errors_length, uint64_t te);
 
 /* Reads a working file. words has room for at least MUS_MOST_WORDS entries, values and errors for at least MUS_MOST_FILE_LINES; entries
- * past those read stay as they were, and a line without an error gets error 0. Refusals 18, 17. */
-struct mus_read_result mus_read(const uint8_t *file, size_t file_length, uint64_t *words, size_t words_length, uint64_t *values, size_t values_length, uint64_t *errors, size_t errors_length);
+ * past those read stay as they were. A line with a record E gets its error, one with U its size below 0, and one with neither gets 0. Refusals
+ * 18, 17. */
+struct mus_read_result mus_read(const uint8_t *file, size_t file_length, uint64_t *words, size_t words_length, uint64_t *values, size_t values_length, int64_t *errors, size_t errors_length);
 
-/* Writes the working file of a content. errors has an entry for each value; MUS_LONGEST_FILE bytes are room for any file, and bytes
- * past the file stay as they were. Refusals 13, 19, 18. */
-struct mus_write_result mus_write(uint8_t level, uint64_t te, uint64_t ae, const uint64_t *words, size_t words_length, const uint64_t *values, size_t values_length, const uint64_t *errors, size_t errors_length, uint8_t *file, size_t file_length);
+/* Writes the working file of a content. errors has an entry for each value: one above 0 becomes a record E, one below 0 a record U.
+ * MUS_LONGEST_FILE bytes are room for any file, and bytes past the file stay as they were. Refusals 13, 19, 18. */
+struct mus_write_result mus_write(uint8_t level, uint64_t te, uint64_t ae, const uint64_t *words, size_t words_length, const uint64_t *values, size_t values_length, const int64_t *errors, size_t errors_length, uint8_t *file, size_t file_length);
 
 /* Prints the sheet of a working file: the desk program's whole text, or its line "refused", number and place where the file or a step
  * is refused. page has room for at least MUS_LONGEST_TEXT bytes; bytes past the text stay as they were. Refusal 18, for the page alone. */

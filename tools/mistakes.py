@@ -1,6 +1,6 @@
 #!/usr/bin/env python3
-"""The tables of the handbook: how fast the rounds of a split shrink; and what each mistake of document 01's "Where newcomers slip" does
-to the figures of samples/large-grants, and to those of the practice ledger over all its starts.
+"""The tables of the handbook: how fast the rounds of a split shrink; what each mistake of document 01's "Where newcomers slip" does to the figures of samples/large-grants,
+and to those of the practice ledger over all its starts; and what taking understatements off would do to those of samples/understated-full.
 
     python3 tools/mistakes.py write      puts the tables into docs/HANDBOOK.md, each in the place of the one with its heading
     python3 tools/mistakes.py check      compares them with those that the page holds
@@ -38,6 +38,7 @@ class Case:
         self.drawn = reference.drawn_lines(self.ledger, self.sampled, self.interval, self.start)
 
     def with_error(self, lines):
+        """Those that are overstated: no other error enters the limit and the verdict."""
         return [line for line in lines if self.errors[line] > 0]
 
 
@@ -87,7 +88,7 @@ def precision_of(level, interval, amounts, read=signed):
 def row(name, case, full, drawn, interval, amount=right_amount, order=falling, read=signed, level=None):
     """A table's row: interval, drawn lines, m, projected error, precision, upper limit, verdict."""
     pairs = [(case.errors[line], amount(case.errors[line], interval, case.ledger[line])) for line in case.with_error(drawn)]
-    projected = sum(case.errors[line] for line in full) + sum(found for _, found in pairs)
+    projected = sum(case.errors[line] for line in case.with_error(full)) + sum(found for _, found in pairs)
     precision = precision_of(level or case.level, interval, order(pairs), read)
     limit = projected + precision
     verdict = reference.verdict_of(projected, limit, case.te)
@@ -206,6 +207,20 @@ def practice_starts():
     ]
 
 
+# ---- Understatements ----
+
+
+def netted(case):
+    """The judgement, and what it would be with the understatements taken off the projected error."""
+    right = reference.judge(case.level, case.ledger, case.n, case.start, case.errors, case.te)
+    rows = []
+    for name, projected in ("**right**", right.full_sum + right.sampled_sum), ("understatements taken off", right.net):
+        limit = projected + right.precision
+        figures = projected, right.precision, limit, case.te
+        rows.append(f"| {name} | " + " | ".join(f"{figure:,}" for figure in figures) + f" | {reference.verdict_of(projected, limit, case.te)} |")
+    return ["| | projected | precision | upper limit | TE | verdict |", "|---|---|---|---|---|---|", *rows]
+
+
 def with_tables(page, tables):
     """The page with each table in the place of the next one that has its heading."""
     lines, at = page.split("\n"), 0
@@ -225,8 +240,9 @@ def main(arguments):
     if arguments not in (["write"], ["check"]):
         sys.exit(__doc__)
     case = Case("large-grants.txt")
-    rounds = shrinking(GRANTS, 4), shrinking(case.ledger, case.n)
-    tables = ["\n".join(lines) for lines in (*rounds, at_its_level(case), over_starts(case), at_level_50(case), practice_starts())]
+    rounds, case_under = (shrinking(GRANTS, 4), shrinking(case.ledger, case.n)), Case("understated-full.txt")
+    ways = netted(case_under), *rounds, at_its_level(case), over_starts(case), at_level_50(case), practice_starts()
+    tables = ["\n".join(lines) for lines in ways]
     page = PAGE.read_text()
     made = with_tables(page, tables)
     if arguments == ["write"]:

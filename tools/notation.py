@@ -10,11 +10,13 @@ a record: a kind of one letter, then as many numbers as the kind has, in decimal
 
     P level TE AE      exactly one, first; the level at most 255
     W word             after P and before any L; at most 64
-    L value            after P and before any E; at most 2,048, their sum within 64 bits
-    E line error       lines from 0, strictly rising and below the count of L; the error above 0
+    L value            after P and before any E and U; at most 2,048, their sum within 64 bits
+    E line error       too much was claimed; the error from 1 to 2^63 - 1
+    U line size        too little was claimed, by this size from 1 to 2^63
+
+The lines of E and U are numbered from 0, strictly rise, E and U taken together, and are below the count of L.
 """
 
-import random
 import sys
 from typing import NamedTuple
 
@@ -24,7 +26,7 @@ MOST_NUMBER = 2**64 - 1
 
 # What is wrong with a line, by its number.
 WRONG = {
-    1: "the line begins with none of P, W, L, E and #",
+    1: "the line begins with none of P, W, L, E, U and #",
     2: "a number is missing",
     3: "a number has decimal digits only",
     4: "a number passes 64 bits",
@@ -32,16 +34,17 @@ WRONG = {
     6: "P has to come first",
     7: "a second P",
     8: "the level is above 255",
-    9: "records come in the order P, W, L, E",
+    9: "records come in the order P, W, L, then E and U",
     10: "more than 64 words",
     11: "more than 2048 lines",
     12: "the sum of L passes 64 bits",
-    13: "E names a line that no L has",
-    14: "the lines of E have to rise",
-    15: "an error has to be above 0",
+    13: "E or U names a line no L has",
+    14: "lines of E and U have to rise",
+    15: "an error has to be above 0 in size",
+    16: "E passes 2^63 - 1, or U 2^63",
 }
 
-NUMBERS_OF = {b"P": 3, b"W": 1, b"L": 1, b"E": 2}
+NUMBERS_OF = {b"P": 3, b"W": 1, b"L": 1, b"E": 2, b"U": 2}
 
 
 class Fault(NamedTuple):
@@ -130,17 +133,28 @@ def take_value(contents, value):
     contents.values.append(value)
 
 
-def take_error(contents, line, error):
+def check_error(contents, line, size, most):
     if line >= len(contents.values):
         raise Wrong(13)
     if contents.errors and line <= max(contents.errors):
         raise Wrong(14)
-    if error == 0:
+    if size == 0:
         raise Wrong(15)
+    if size > most:
+        raise Wrong(16)
+
+
+def take_overstated(contents, line, error):
+    check_error(contents, line, error, reference.MOST_OVERSTATED)
     contents.errors[line] = error
 
 
-TAKE = {b"P": take_plan, b"W": take_word, b"L": take_value, b"E": take_error}
+def take_understated(contents, line, size):
+    check_error(contents, line, size, reference.MOST_UNDERSTATED)
+    contents.errors[line] = -size
+
+
+TAKE = {b"P": take_plan, b"W": take_word, b"L": take_value, b"E": take_overstated, b"U": take_understated}
 
 
 def take_line(contents, line):
@@ -167,94 +181,11 @@ def parse(text):
     return contents if contents.plan is not None else Fault(number + 1, 6)
 
 
-# ---- The self-test ----
-
-PRACTICE = b"# the practice ledger\nP 90 100 0\n\nW 63\nW 25\nL 30\nL 30\nL 40\nL 20\n  E 0\t7 \r\nE 2 10\nE 3 5"
-PLAN = b"P 90 100 0\n"
-
-
-def same(what, found, expected):
-    if found != expected:
-        sys.exit(f"{what}: found {found}, expected {expected}")
-
-
-def faults():
-    """Texts with their fault, one or more for each number."""
-    yield from ((b"Z 4 120", 1, 1), (b"PP 1 2 3", 1, 1), (b"p 90 100 0", 1, 1), (b"\xff", 1, 1), (PLAN + b"\0", 2, 1))
-    yield from ((b"P 90 100", 1, 2), (b"P", 1, 2), (PLAN + b"L 5\nE 0", 3, 2), (PLAN + b"W \t\r\n", 2, 2))
-    yield from ((b"P 90 100 -1", 1, 3), (b"P 9x 100", 1, 3), (PLAN + b"L 1,000", 2, 3), (PLAN + b"L 30#", 2, 3))
-    yield from ((b"P 90 100 18446744073709551616", 1, 4), (PLAN + b"W 99999999999999999999x", 2, 4))
-    yield from ((b"P 90 100 0 0", 1, 5), (PLAN + b"L 30 # rent", 2, 5), (PLAN + b"W 1 x", 2, 5))
-    yield from ((b"", 1, 6), (b"\n# no P\n", 3, 6), (b"W 63\n" + PLAN, 1, 6), (b"#", 2, 6), (b"E 0 0", 1, 6))
-    yield from ((PLAN + PLAN, 2, 7), (PLAN + b"L 1\nP 256 0 0", 3, 7), (b"P 256 100 0", 1, 8))
-    yield from ((PLAN + b"L 30\nW 63", 3, 9), (PLAN + b"L 30\nE 0 7\nL 30", 4, 9), (PLAN + b"L 1\nE 0 1\nW 1", 4, 9))
-    yield from ((PLAN + b"W 1\n" * 65, 66, 10), (PLAN + b"L 1\n" * 2049, 2050, 11))
-    yield from ((PLAN + b"L 18446744073709551615\nL 1", 3, 12), (PLAN + b"E 0 7", 2, 13), (PLAN + b"L 30\nE 1 7", 3, 13))
-    yield from ((PLAN + b"L 1\nL 1\nE 1 1\nE 1 1", 5, 14), (PLAN + b"L 1\nL 1\nE 1 1\nE 0 1", 5, 14), (PLAN + b"L 30\nE 0 0", 3, 15))
-
-
-def random_contents(r):
-    contents = Contents()
-    contents.plan = r.randrange(256), r.choice((0, 1, MOST_NUMBER)), r.randrange(10**6)
-    contents.words = [r.randrange(2**64) for _ in range(r.choice((0, 1, 5, 64)))]
-    contents.values = [r.randrange(10 ** r.randrange(1, 14)) for _ in range(r.choice((0, 1, 20, 2048)))]
-    drawn = sorted(r.sample(range(len(contents.values)), r.randrange(len(contents.values) + 1)))
-    contents.errors = {line: r.randrange(1, 2**64) for line in drawn}
-    return contents
-
-
-def records_of(contents):
-    yield "P", *contents.plan
-    for word in contents.words:
-        yield "W", word
-    for value in contents.values:
-        yield "L", value
-    for line, error in contents.errors.items():
-        yield "E", line, error
-
-
-def random_line(r, kind, *numbers):
-    """A record with blanks of every kind and leading zeros."""
-    def blanks(least):
-        return "".join(r.choice(" \t\r") for _ in range(r.choice((least, least, 3))))
-
-    fields = "".join(blanks(1) + str(number).zfill(r.choice((0, 0, 25))) for number in numbers)
-    return blanks(0) + kind + fields + blanks(0)
-
-
-def random_text(r, contents):
-    """A text of a content, with blank lines and comments."""
-    lines = []
-    for record in records_of(contents):
-        lines += r.choice(([], [], [""], ["  # L 5"]))
-        lines.append(random_line(r, *record))
-    return "\n".join(lines).encode() + r.choice((b"", b"\n", b"\n\n"))
-
-
-def self_test():
-    practice = parse(PRACTICE)
-    same("practice", (practice.plan, practice.words, practice.values, practice.all_errors()), ((90, 100, 0), [63, 25], [30, 30, 40, 20], [7, 0, 10, 5]))
-    same("practice file", len(practice.file()), 124)
-    for text, line, number in faults():
-        same(text[:40], parse(text), Fault(line, number))
-    same("every fault", {number for _, _, number in faults()}, set(WRONG))
-    for text in (PLAN + b"W 1\n" * 64, PLAN + b"L 1\n" * 2048, PLAN + b"L 18446744073709551615\nL 0", b"P 255 0 0"):
-        same(text[:40], type(parse(text)), Contents)
-    r = random.Random(1)
-    for _ in range(200):
-        contents = random_contents(r)
-        text = random_text(r, contents)
-        found = parse(text)
-        same(text[:40], type(found), Contents)
-        expected = contents.plan, contents.words, contents.values, contents.all_errors()
-        same(text[:40], (found.plan, found.words, found.values, found.all_errors()), expected)
-        same(text[:40], reference.decode(found.file()), expected)
-    print("notation: the practice text, every fault, every limit and 200 random texts agree")
-
-
 def main(arguments):
     if arguments == ["check"]:
-        self_test()
+        import notation_test  # it stands on this file
+
+        notation_test.run()
     elif arguments == ["pack"]:
         found = parse(sys.stdin.buffer.read())
         if isinstance(found, Fault):

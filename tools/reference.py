@@ -27,6 +27,8 @@ MOST_ERRORS = 63
 MOST_FILE_WORDS = 64
 MOST_FILE_LINES = 2_048
 MOST_SUM = 2**64 - 1
+MOST_OVERSTATED = 2**63 - 1
+MOST_UNDERSTATED = 2**63
 
 # The expansion factor of each level, in hundredths; its keys are the nine levels.
 EF = {99: 190, 95: 160, 90: 150, 85: 140, 80: 130, 75: 125, 70: 120, 60: 110, 50: 100}
@@ -62,15 +64,23 @@ class Draw(NamedTuple):
 
 
 class Projection(NamedTuple):
+    """The sums of overstatements, m, the sums of understatements as sizes, and the net with its sign."""
+
     full_sum: int
     sampled_sum: int
     m: int
+    understated_full: int
+    understated_sampled: int
+    net: int
 
 
 class Judgement(NamedTuple):
     full_sum: int
     sampled_sum: int
     m: int
+    understated_full: int
+    understated_sampled: int
+    net: int
     precision: int
     upper_limit: int
     verdict: str
@@ -329,19 +339,21 @@ def draw(ledger, n, first_point, marks):
 
 
 def projected(state, value, error, interval):
-    """The projected amount of a line, rounded up once."""
+    """The projected amount of a line, rounded up once in size; below 0 where the error is, an understatement."""
     if state == FULL:
         return error
     if state == DRAWN:
-        return divide_up(error * interval, value)
+        size = divide_up(abs(error) * interval, value)
+        return size if error >= 0 else -size
     return 0
 
 
 def check_errors(ledger, errors, states):
+    """An error lies from -v to v, and any other than 0 on a line that was examined."""
     for line, (value, error, state) in enumerate(zip(ledger, errors, states)):
-        if error > value:
+        if not -value <= error <= value:
             raise Refused(14, line)
-        if error > 0 and state == NOT_DRAWN:
+        if error != 0 and state == NOT_DRAWN:
             raise Refused(15, line)
 
 
@@ -353,19 +365,25 @@ def amounts_of_lines(ledger, n, first_point, errors):
     return interval, states, amounts
 
 
-def projection_of(states, amounts, errors):
-    """Both sums, and how many drawn lines have an error above 0."""
-    full_sum = sum(amount for state, amount in zip(states, amounts) if state == FULL)
-    sampled_sum = sum(amount for state, amount in zip(states, amounts) if state == DRAWN)
-    m = sum(1 for state, error in zip(states, errors) if state == DRAWN and error > 0)
-    return Projection(full_sum, sampled_sum, m)
+def amounts_in(state, states, amounts):
+    """The amounts of the lines in a state, apart by kind: overstatements, and the sizes of understatements."""
+    found = [amount for of_line, amount in zip(states, amounts) if of_line == state]
+    return [amount for amount in found if amount > 0], [-amount for amount in found if amount < 0]
+
+
+def projection_of(states, amounts):
+    """Both sums of each kind; m, the drawn lines with an overstatement; and the net of the four sums."""
+    full, understated_full = amounts_in(FULL, states, amounts)
+    sampled, understated_sampled = amounts_in(DRAWN, states, amounts)
+    net = sum(full) + sum(sampled) - sum(understated_full) - sum(understated_sampled)
+    return Projection(sum(full), sum(sampled), len(sampled), sum(understated_full), sum(understated_sampled), net)
 
 
 @operation
 def project(ledger, n, first_point, errors):
     ledger_total(ledger, errors)
     _, states, amounts = amounts_of_lines(ledger, n, first_point, errors)
-    return projection_of(states, amounts, errors)
+    return projection_of(states, amounts)
 
 
 @operation
@@ -374,7 +392,7 @@ def project_lines(ledger, n, first_point, errors, amounts):
     ledger_total(ledger, errors, amounts)
     _, states, projected_amounts = amounts_of_lines(ledger, n, first_point, errors)
     amounts[:] = projected_amounts
-    return projection_of(states, projected_amounts, errors)
+    return projection_of(states, projected_amounts)
 
 
 # ---- Steps 6 and 7: upper limit and verdict ----
@@ -397,15 +415,16 @@ def verdict_of(projected_error, upper_limit, te):
     return "inconclusive"
 
 
-def judgement_of(level, interval, states, amounts, errors, te):
-    full_sum, sampled_sum, m = projection_of(states, amounts, errors)
-    if m > MOST_ERRORS:
+def judgement_of(level, interval, states, amounts, te):
+    """Only overstatements enter m, the precision, the limit and the verdict."""
+    projection = projection_of(states, amounts)
+    if projection.m > MOST_ERRORS:
         raise Refused(16, 0)
-    with_error = [a for state, a, error in zip(states, amounts, errors) if state == DRAWN and error > 0]
-    precision = precision_of(level, interval, with_error)
-    upper_limit = full_sum + sampled_sum + precision
-    verdict = verdict_of(full_sum + sampled_sum, upper_limit, te)
-    return Judgement(full_sum, sampled_sum, m, precision, upper_limit, verdict)
+    overstated, _ = amounts_in(DRAWN, states, amounts)
+    precision = precision_of(level, interval, overstated)
+    projected_error = projection.full_sum + projection.sampled_sum
+    upper_limit = projected_error + precision
+    return Judgement(*projection, precision, upper_limit, verdict_of(projected_error, upper_limit, te))
 
 
 @operation
@@ -414,13 +433,14 @@ def judge(level, ledger, n, first_point, errors, te):
     total = ledger_total(ledger, errors)
     check_te(te, total)
     interval, states, amounts = amounts_of_lines(ledger, n, first_point, errors)
-    return judgement_of(level, interval, states, amounts, errors, te)
+    return judgement_of(level, interval, states, amounts, te)
 
 
 # ---- The working file ----
 
-BODY = {ord("P"): 17, ord("W"): 8, ord("L"): 8, ord("E"): 12, ord("Z"): 12}
-ORDER = b"PWLEZ"
+BODY = {ord("P"): 17, ord("W"): 8, ord("L"): 8, ord("E"): 12, ord("U"): 12, ord("Z"): 12}
+# E and U share one place in the order.
+PLACE = {ord("P"): 0, ord("W"): 1, ord("L"): 2, ord("E"): 3, ord("U"): 3, ord("Z"): 4}
 
 
 def number_at(file, offset, width):
@@ -437,7 +457,7 @@ class Reading:
     def comes_in_order(self, kind):
         if self.last_kind is None:
             return kind == ord("P")
-        return kind != ord("P") and ORDER.index(kind) >= ORDER.index(self.last_kind)
+        return kind != ord("P") and PLACE[kind] >= PLACE[self.last_kind]
 
     def take_P(self, body):
         self.plan = body[0], number_at(body, 1, 8), number_at(body, 9, 8)
@@ -453,11 +473,18 @@ class Reading:
         self.values_sum += value
         return len(self.values) <= MOST_FILE_LINES and self.values_sum <= MOST_SUM
 
-    def take_E(self, body):
-        line, error = number_at(body, 0, 4), number_at(body, 4, 8)
+    def take_error(self, body, sign, most):
+        """E and U share one strictly rising sequence of lines; each holds a size above 0."""
+        line, size = number_at(body, 0, 4), number_at(body, 4, 8)
         rises = line > self.last_error_line
-        self.errors[line], self.last_error_line = error, line
-        return rises and line < len(self.values) and error > 0
+        self.errors[line], self.last_error_line = sign * size, line
+        return rises and line < len(self.values) and 0 < size <= most
+
+    def take_E(self, body):
+        return self.take_error(body, 1, MOST_OVERSTATED)
+
+    def take_U(self, body):
+        return self.take_error(body, -1, MOST_UNDERSTATED)
 
     def take_Z(self, body):
         return (number_at(body, 0, 4), number_at(body, 4, 8)) == (len(self.values), self.values_sum)
@@ -504,12 +531,19 @@ def record(kind, *fields):
     return kind + b"".join(number.to_bytes(width, "little") for number, width in fields)
 
 
+def error_record(line, error):
+    """E for an overstatement, U with the size of an understatement, and nothing for no error."""
+    if error == 0:
+        return b""
+    return record(b"E" if error > 0 else b"U", (line, 4), (abs(error), 8))
+
+
 def encode(level, te, ae, words, values, errors):
     """The one file of a content."""
     file = record(b"P", (level, 1), (te, 8), (ae, 8))
     file += b"".join(record(b"W", (word, 8)) for word in words)
     file += b"".join(record(b"L", (value, 8)) for value in values)
-    file += b"".join(record(b"E", (line, 4), (error, 8)) for line, error in enumerate(errors) if error > 0)
+    file += b"".join(error_record(line, error) for line, error in enumerate(errors))
     return file + record(b"Z", (len(values), 4), (sum(values), 8))
 
 
@@ -549,16 +583,14 @@ def desk_lines(file):
     figures, _ = finished_split(ledger, n)
     first_point, words_read = accepted(start(figures.interval, words))
     interval, states, amounts = amounts_of_lines(ledger, n, first_point, errors)
-    full_sum, sampled_sum, m, precision, upper_limit, verdict = judgement_of(
-        level, interval, states, amounts, errors, te
-    )
+    *projection, precision, upper_limit, verdict = judgement_of(level, interval, states, amounts, te)
     yield text_line("plan", level, total, te, ae, n)
     yield text_line("split", *figures)
     yield text_line("start", first_point, words_read)
     for line, state in enumerate(states):
         if state != NOT_DRAWN:
             yield text_line("full" if state == FULL else "drawn", line, ledger[line], errors[line], amounts[line])
-    yield text_line("project", full_sum, sampled_sum, m)
+    yield text_line("project", *projection)
     yield text_line("judge", precision, upper_limit, verdict)
 
 

@@ -66,7 +66,7 @@ def figures_of_one_round(level, te, n, words, ledger, errors):
     start = reference.start(interval, words).start
     drawn = reference.drawn_lines(ledger, others, interval, start)
     amounts = [reference.divide_up(errors[line] * interval, ledger[line]) for line in drawn if errors[line] > 0]
-    projected_error = sum(errors[line] for line in full) + sum(amounts)
+    projected_error = sum(max(0, errors[line]) for line in full) + sum(amounts)
     precision = reference.precision_of(level, interval, amounts)
     limit = projected_error + precision
     verdict = reference.verdict_of(projected_error, limit, te)

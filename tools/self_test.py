@@ -18,7 +18,7 @@ start 25 2
 drawn 0 30 7 10
 drawn 2 40 10 10
 drawn 3 20 5 10
-project 0 30 3
+project 0 30 3 0 0 30
 judge 107 137 inconclusive
 """
 
@@ -87,33 +87,52 @@ def practice_lines():
     amounts = [9] * 4
     same("all four at start 0, lines", project_lines(PRACTICE_LEDGER, 3, 0, PRACTICE_ERRORS, amounts), Refusal(15, 3))
     same("refused lines", amounts, [9] * 4)
-    same("start 25, lines", project_lines(PRACTICE_LEDGER, 3, 25, PRACTICE_ERRORS, amounts), Projection(0, 30, 3))
+    same("start 25, lines", project_lines(PRACTICE_LEDGER, 3, 25, PRACTICE_ERRORS, amounts), Projection(0, 30, 3, 0, 0, 30))
     same("amounts", amounts, [10, 0, 10, 10])
     same("short of an amount", project_lines(PRACTICE_LEDGER, 3, 25, PRACTICE_ERRORS, amounts[:3]), Refusal(13, 0))
     beside_full = [9] * 5
-    same("full lines", project_lines([500, 120, 0, 80, 300], 4, 79, [50, 0, 0, 8, 3], beside_full), Projection(53, 8, 1))
+    same("full lines", project_lines([500, 120, 0, 80, 300], 4, 79, [50, 0, 0, 8, 3], beside_full), Projection(53, 8, 1, 0, 0, 61))
     same("a full line projects its error", beside_full, [50, 0, 0, 8, 3])
 
 
 def practice_judgement():
-    by_level = {90: Judgement(0, 30, 3, 107, 137, "inconclusive"), 50: Judgement(0, 30, 3, 28, 58, "below")}
+    projection = 0, 30, 3, 0, 0, 30
+    by_level = {90: Judgement(*projection, 107, 137, "inconclusive"), 50: Judgement(*projection, 28, 58, "below")}
     for level, expected in by_level.items():
         same(f"judge {level}", judge(level, PRACTICE_LEDGER, 3, 25, PRACTICE_ERRORS, 100), expected)
     for te, verdict in (59, "below"), (58, "inconclusive"), (30, "inconclusive"), (29, "above"):
-        same(f"TE {te}", judge(50, PRACTICE_LEDGER, 3, 25, PRACTICE_ERRORS, te), Judgement(0, 30, 3, 28, 58, verdict))
+        same(f"TE {te}", judge(50, PRACTICE_LEDGER, 3, 25, PRACTICE_ERRORS, te), Judgement(*projection, 28, 58, verdict))
+
+
+def practice_understated():
+    """A drawn line of each kind, a full line of each kind, a net below 0, and what is refused."""
+    amounts = [9] * 4
+    same("line 0 understated", project_lines(PRACTICE_LEDGER, 3, 25, [-7, 0, 10, 5], amounts), Projection(0, 20, 2, 0, 10, 10))
+    same("rounded up in size", amounts, [-10, 0, 10, 10])
+    judged = judge(90, PRACTICE_LEDGER, 3, 25, [-7, 0, 10, 5], 100)
+    same("judged", judged, Judgement(0, 20, 2, 0, 10, 10, 103, 123, "inconclusive"))
+    same("as with no error there", judged[6:], judge(90, PRACTICE_LEDGER, 3, 25, [0, 0, 10, 5], 100)[6:])
+    grants = [500, 120, 0, 80, 300]
+    same("full lines", project(grants, 4, 79, [-50, 12, 0, -8, 3]), Projection(15, 0, 0, 50, 8, -43))
+    for error, answer in (-31, Refusal(14, 0)), (-(2**63), Refusal(14, 0)), (-30, Projection(0, 0, 0, 0, 40, -40)):
+        same(f"error {error}", project(PRACTICE_LEDGER, 3, 25, [error, 0, 0, 0]), answer)
+    same("line 1 is not drawn", project(PRACTICE_LEDGER, 3, 25, [0, -1, 0, 0]), Refusal(15, 1))
+    beside = [1] * 63 + [-10] * 9
+    same("63 and understatements", judge(90, [10] * 72, 72, 0, beside, 100)[:6], (0, 63, 63, 0, 90, -27))
+    same("64", judge(90, [10] * 72, 72, 0, [1] + beside[:-1], 100), Refusal(16, 0))
 
 
 def practice_limits():
     same("J above the base's maximum", split([4_000_000_001], 1, [9]).interval, 4_000_000_001)
     same("widest J", split([10**13] * 100, 1, [9] * 100).interval, MOST_INTERVAL)
-    same("amount of 93 bits", project([10**13] * 100, 1, 0, [10**13 - 1] + [0] * 99), Projection(0, 10**15 - 100, 1))
-    same("amount rounded up", project([10**13] * 99 + [10**13 - 1], 1, 0, [1] + [0] * 99), Projection(0, 100, 1))
+    same("amount of 93 bits", project([10**13] * 100, 1, 0, [10**13 - 1] + [0] * 99), Projection(0, 10**15 - 100, 1, 0, 0, 10**15 - 100))
+    same("amount rounded up", project([10**13] * 99 + [10**13 - 1], 1, 0, [1] + [0] * 99), Projection(0, 100, 1, 0, 0, 100))
     same("widest J handed in", start(MOST_INTERVAL, [0]), Start(0, 1))
     same("one cent more handed in", start(MOST_INTERVAL + 1, [0]), Refusal(10, 0))
     for m, judged in (63, True), (64, False):
         answer = judge(90, [10] * m, m, 0, [1] * m, 10)
         same(f"{m} errors", isinstance(answer, Judgement), judged)
-        same(f"{m} errors projected", project([10] * m, m, 0, [1] * m), Projection(0, m, m))
+        same(f"{m} errors projected", project([10] * m, m, 0, [1] * m), Projection(0, m, m, 0, 0, m))
     same("64 errors", judge(90, [10] * 64, 64, 0, [1] * 64, 10), Refusal(16, 0))
 
 
@@ -130,8 +149,24 @@ def practice_file():
     for cut in range(len(PRACTICE_FILE)):
         same("a file cut short", decode_offset(PRACTICE_FILE[:cut]) <= cut, True)
     same("a byte after Z", decode_offset(PRACTICE_FILE + b"Z"), len(PRACTICE_FILE))
-    longest = encode(99, 1, 1, [0] * 64, [1] * 2_048, [1] * 2_048)
-    same("longest file", (len(longest), len(decode(longest)[3])), (45_663, 2_048))
+    for longest_errors in [1] * 2_048, [-1] * 2_048, [2**63 - 1, -(2**63)] * 1_024:
+        longest = encode(99, 1, 1, [0] * 64, [1] * 2_048, longest_errors)
+        same("longest file", (len(longest), decode(longest)[3]), (45_663, longest_errors))
+
+
+def practice_understated_file():
+    """E and U in one rising run, each with its own largest size."""
+    errors = [7, -(2**63), -10, 2**63 - 1]
+    file = encode(90, 100, 0, [63, 25], PRACTICE_LEDGER, errors)
+    same("kinds", [file[72 + 13 * record] for record in range(5)], list(b"EUUEZ"))
+    same("read back", decode(file)[3], errors)
+    for place, byte in (72, b"U"), (85, b"E"), (85 + 12, b"\x81"), (98 + 1, b"\x01"), (98 + 5, b"\x00"), (111 + 12, b"\x80"):
+        changed = file[:place] + byte + file[place + 1 :]
+        record = 72 + (place - 72) // 13 * 13
+        same(f"byte {place} changed", decode_offset(changed), None if place == 72 else record)
+    same("L after U", decode_offset(file[:98] + file[36:45] + file[98:]), 98)
+    text = desk(encode(90, 100, 0, [63, 25], PRACTICE_LEDGER, [-7, 0, 10, 5])).decode().splitlines()
+    same("desk", text[3:4] + text[6:], ["drawn 0 30 -7 -10", "project 0 20 2 0 10 10", "judge 103 123 inconclusive"])
 
 
 def decode_offset(file):
@@ -160,30 +195,38 @@ def practice_factors():
 
 
 def random_case(r):
-    """A small ledger, a number of draws, and true errors between nothing and the book value."""
+    """A small ledger, a number of draws, and true errors from -v to v, of one kind or of both."""
     most = r.one_of([3, 20, 200])
     ledger = [r.between(0, most) for _ in range(r.between(1, 12))]
     if r.chance(40):
         ledger[r.below(len(ledger))] = r.between(0, 20 * most)
-    errors = [r.one_of([0, value, r.between(0, value)]) for value in ledger]
+    signs = r.one_of([[1], [-1], [1, -1]])
+    errors = [r.one_of(signs) * r.one_of([0, value, r.between(0, value)]) for value in ledger]
     return ledger, r.between(1, 15), errors
 
 
+def kinds(errors):
+    """Overstatements and sizes of understatements, apart."""
+    return [max(0, error) for error in errors], [max(0, -error) for error in errors]
+
+
 def check_all_starts(ledger, n, true_errors):
-    """Each sampled line is drawn at as many starts as it has cents, and the projections add up over the starts."""
+    """Each sampled line is drawn at as many starts as it has cents, and the projections of each kind add up over the starts."""
     figures, marks = split(ledger, n, [9] * len(ledger)), marks_of(split, ledger, n)
     sampled = [line for line, mark in enumerate(marks) if mark != FULL]
-    full_error = sum(error for error, mark in zip(true_errors, marks) if mark == FULL)
-    times_drawn, over_all_starts = [0] * len(ledger), 0
+    full_errors = [sum(error for error, mark in zip(kind, marks) if mark == FULL) for kind in kinds(true_errors)]
+    times_drawn, over_all_starts = [0] * len(ledger), [0, 0]
     for first_point in range(figures.interval):
         for line, mark in enumerate(marks_of(draw, ledger, n, first_point)):
             times_drawn[line] += mark == DRAWN
         answer = project(ledger, n, first_point, errors_entered(ledger, n, first_point, true_errors))
-        same("full sum", answer.full_sum, full_error)
-        over_all_starts += answer.sampled_sum
+        same("full sums", [answer.full_sum, answer.understated_full], full_errors)
+        over_all_starts[0] += answer.sampled_sum
+        over_all_starts[1] += answer.understated_sampled
     same("times drawn", [times_drawn[line] for line in sampled], [ledger[line] for line in sampled])
-    true = figures.interval * sum(true_errors[line] for line in sampled)
-    same("added over all starts", true <= over_all_starts < true + figures.sampled_total, True)
+    for kind, added in zip(kinds(true_errors), over_all_starts):
+        true = figures.interval * sum(kind[line] for line in sampled)
+        same("added over all starts", true <= added < true + figures.sampled_total, True)
 
 
 def practice_all_starts():
@@ -200,7 +243,7 @@ def practice_all_starts():
 
 def run():
     tests = [practice_size, practice_split, practice_draw, practice_projection, practice_lines, practice_judgement]
-    tests += [practice_limits, practice_file, practice_all_starts, practice_factors]
+    tests += [practice_understated, practice_limits, practice_file, practice_understated_file, practice_all_starts, practice_factors]
     for test in tests:
         test()
         print("ok", test.__name__.replace("_", " "))

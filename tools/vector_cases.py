@@ -4,9 +4,12 @@ from reference import EF, MOST_TOTAL
 from seeded import Seeded
 from vector_errors import long_errors, projected_cases, projected_edges
 from vector_files import read_cases, stored_reads, write_cases
-from vector_forms import MOST_WORD, Draw, Generated, Judge, Project, Size, Split, Start, equal, listed
+from vector_forms import Draw, Judge, Project, Size, Split, Start
+from vector_kinds import kind_cases
 from vector_ledgers import BASE_INTERVAL, broken_ledgers, interval_of, legal_ledger, long_ledgers, random_draws, split_ledgers, starts_for
 from vector_lines import lines_cases
+from vector_lists import MOST_ERROR, MOST_WORD, Generated, equal, listed
+from vector_signed import signed_cases
 from vector_verdicts import verdict_cases, verdict_edges
 from vector_wide import wide_cases
 
@@ -161,7 +164,7 @@ def judge_cases(r):
             yield Judge(level, ledger, listed(errors), n, first_point, te)
     for _ in range(40):  # the first refusal wins
         ledger, values = legal_ledger(r)
-        errors = listed([MOST_WORD] * r.one_of([len(values), len(values), 1 + len(values)]))
+        errors = listed([MOST_ERROR] * r.one_of([len(values), len(values), 1 + len(values)]))
         te = r.one_of([0, 1, sum(values), sum(values) + 1])
         yield Judge(r.one_of([50, 99, 100]), ledger, errors, r.one_of([0, 1, 9]), r.one_of([0, MOST_WORD]), te)
 
@@ -186,7 +189,7 @@ def every_case():
     r = Seeded(20)
     ways = [size_cases(r), split_cases(r), start_cases(r), draw_cases(r), project_cases(r), judge_cases(r)]
     ways += [read_cases(r), write_cases(r), stored_reads(), largest_cases(), wide_cases(Seeded(21)), lines_cases(Seeded(22))]
-    ways += [verdict_cases()]
+    ways += [verdict_cases(), signed_cases(Seeded(23)), kind_cases(Seeded(24))]
     for way in ways:
         for case in way:
             if not hasattr(case, "ledger") or case.ledger.count <= LARGEST_LEDGER:

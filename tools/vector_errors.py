@@ -2,8 +2,8 @@
 
 import reference
 import self_test
-from vector_forms import MOST_WORD, Generated, equal, listed
 from vector_ledgers import BASE_INTERVAL, broken_ledgers, interval_of, legal_ledger, long_ledgers, random_draws, split_ledgers, starts_for
+from vector_lists import MOST_ERROR, MOST_WORD, Generated, equal, listed
 
 
 def errors_found(r, values, n, first_point, share=60):
@@ -23,7 +23,7 @@ def spoiled(r, values, errors, marks):
     not_drawn = [line for line, mark in enumerate(marks) if mark == 0 and values[line] > 0]
     if 14 in ways or not not_drawn:
         line = r.below(len(values))
-        errors[line] = r.one_of([values[line] + 1, MOST_WORD])
+        errors[line] = r.one_of([values[line] + 1, MOST_ERROR])
     if 15 in ways and not_drawn:
         line = r.one_of(not_drawn)
         errors[line] = r.one_of([1, values[line]])
@@ -45,7 +45,7 @@ def projected_cases(r, many, few):
     for _ in range(few // 3):
         ledger, values = legal_ledger(r)
         n, length = r.one_of([0, 2, MOST_WORD]), r.one_of([0, len(values), len(values) + 1])
-        yield ledger, [MOST_WORD] * length, n, r.one_of([0, interval_of(values, n), MOST_WORD])
+        yield ledger, [MOST_ERROR] * length, n, r.one_of([0, interval_of(values, n), MOST_WORD])
 
 
 def projected_edges(r):
@@ -58,7 +58,7 @@ def projected_edges(r):
         for first_point in sorted({0, max(1, interval_of(values, n)) - 1}):
             yield listed(values), errors_found(r, values, n, first_point, 90)[0], n, first_point
     for values in broken_ledgers():
-        yield listed(values), [MOST_WORD] * len(values), 0, 7
+        yield listed(values), [MOST_ERROR] * len(values), 0, 7
         yield listed(values), [0] * (len(values) + 1), 3, 0
     whole = [BASE_INTERVAL, BASE_INTERVAL - 1, 1, BASE_INTERVAL]
     yield listed(whole), whole, 3, BASE_INTERVAL - 1

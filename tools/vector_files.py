@@ -2,7 +2,8 @@
 
 import reference
 import self_test
-from vector_forms import MOST_WORD, Generated, Given, Read, Write, Written, equal, listed
+from vector_forms import Read, Write
+from vector_lists import MOST_ERROR, MOST_WORD, Generated, Given, Written, equal, listed, signed
 
 PRACTICE = self_test.PRACTICE_FILE
 P = reference.record(b"P", (90, 1), (100, 8), (0, 8))
@@ -94,7 +95,7 @@ def random_content(r):
     """Words, values and errors that a file can hold."""
     words = [r.below(2 ** r.one_of([8, 64])) for _ in range(r.between(0, 3))]
     values = [r.below(2 ** r.one_of([1, 8, 33, 60])) for _ in range(r.between(0, 6))]
-    errors = [r.one_of([0, 0, r.below(2 ** r.one_of([8, 64]))]) for _ in values]
+    errors = signed(r.one_of([0, 0, r.below(2 ** r.one_of([8, 64]))]) for _ in values)
     return words, values, errors
 
 
@@ -155,7 +156,7 @@ LONGEST = whole(
 def legal_files():
     yield PRACTICE
     yield from (P + Z(0, 0), plan(0, 0, 0) + Z(0, 0), plan(255, MOST_WORD, MOST_WORD) + W(MOST_WORD) + Z(0, 0))
-    yield from (whole(P, range(64), [], []), whole(P, [], [0], []), whole(P, [], [MOST_WORD], [(0, MOST_WORD)]))
+    yield from (whole(P, range(64), [], []), whole(P, [], [0], []), whole(P, [], [MOST_WORD], [(0, MOST_ERROR)]))
     yield from (whole(P, [], [MOST_WORD - 1, 1, 0], [(2, 1)]), whole(P, [], [1, 2, 3, 4], [(3, 9)]))
     yield whole(P, [], [0x0102030405060708] * 5, [(1, 0x1112131415161718), (4, 1)])
     yield LONGEST
@@ -165,7 +166,7 @@ def illegal_files():
     """Each rule broken, with the bytes after it that a reader could run into."""
     lines = 3 * L(9)
     yield from (Z(0, 0), W(1) + P + Z(0, 0), P + P + Z(0, 0), P + W(1) + P + Z(0, 0))  # no P, or a second
-    yield from (P + b"U" + bytes(12) + Z(0, 0), P + b"\0" + Z(0, 0), b"p" + P[1:] + Z(0, 0))  # kinds that are none
+    yield from (P + b"V" + bytes(12) + Z(0, 0), P + b"\0" + Z(0, 0), b"p" + P[1:] + Z(0, 0))  # kinds that are none
     yield P + L(1) + W(1) + Z(1, 1)  # kinds out of order
     yield from (P + L(1) + E(0, 1) + W(1) + Z(1, 1), P + L(1) + E(0, 1) + L(1) + Z(2, 2))
     yield from (P + 65 * W(5) + Z(0, 0), P + 2_049 * L(0) + Z(2_049, 0))  # one too many

@@ -1,99 +1,10 @@
-"""The forms in which a case is given (docs/VECTORS.md): lists, bytes, and one class for each operation."""
+"""The forms in which a case is given (docs/VECTORS.md): one class for each operation."""
 
-import collections
 import struct
 from dataclasses import dataclass
 
 import reference
-
-MOST_WORD = 2**64 - 1
-
-
-# ---- Lists and bytes ----
-
-
-def packed(changes, form="<IQ"):
-    """The count of the changes, then place and entry of each."""
-    return struct.pack("<H", len(changes)) + b"".join(struct.pack(form, *change) for change in changes)
-
-
-def changed(entries, changes):
-    for place, entry in changes:
-        entries[place] = entry
-    return entries
-
-
-@dataclass
-class Generated:
-    count: int
-    seed: int = 0
-    low: int = 0
-    most: int = 0
-    scale: int = 0
-    changes: tuple = ()
-    step: int = 0
-
-    def pack(self):
-        if self.count == 0:
-            return struct.pack("<I", 0)
-        head = (self.count, self.seed, self.low, self.step, self.most, self.scale)
-        return struct.pack("<IIQIII", *head) + packed(self.changes)
-
-    def expand(self):
-        entries, x = [], self.seed
-        for place in range(self.count):
-            x = (x * 1_664_525 + 1_013_904_223) % 2**32
-            entries.append((self.low + place * self.step + x // 256 % (self.most + 1) * self.scale) % 2**64)
-        return changed(entries, self.changes)
-
-
-NOTHING = Generated(0)
-
-
-def equal(count, entry=0, changes=()):
-    """One entry, repeated, and changes."""
-    return Generated(count, low=entry, changes=changes)
-
-
-def listed(entries):
-    """Any list: the most frequent entry, and each other as a change."""
-    usual = collections.Counter(entries).most_common(1)[0][0] if entries else 0
-    return equal(len(entries), usual, tuple((place, entry) for place, entry in enumerate(entries) if entry != usual))
-
-
-def room_of_numbers(count):
-    """What a lent room of numbers holds before a call."""
-    return Generated(count, low=11_000_000_000_000_000_000, step=1)
-
-
-def room_of_bytes(count):
-    """What a lent room of bytes holds before a call."""
-    return bytearray((17 + i % 199) for i in range(count))
-
-
-@dataclass
-class Given:
-    content: bytes
-
-    def pack(self):
-        return struct.pack("<BI", 0, len(self.content)) + self.content
-
-    def expand(self, latest):
-        return self.content
-
-
-@dataclass
-class Written:
-    """The start of the room of bytes that was lent last, as that call left it, changed."""
-
-    count: int
-    changes: tuple = ()
-
-    def pack(self):
-        return struct.pack("<BI", 1, self.count) + packed(self.changes, "<IB")
-
-    def expand(self, latest):
-        return bytes(changed(bytearray(latest[: self.count]), self.changes))
+from vector_lists import NOTHING, room_of_bytes, room_of_numbers, signed
 
 
 def fields(operation, level=0, numbers=(), room=0, ledger=NOTHING, errors=NOTHING, words=NOTHING):
@@ -173,7 +84,7 @@ class Project:
         return fields(5, numbers=(self.n, self.start), ledger=self.ledger, errors=self.errors)
 
     def run(self, latest):
-        ledger, errors = self.ledger.expand(), self.errors.expand()
+        ledger, errors = self.ledger.expand(), signed(self.errors.expand())
         return reference.project(ledger, self.n, self.start, errors), [ledger, errors]
 
 
@@ -190,7 +101,7 @@ class Lines:
         return fields(9, numbers=(self.n, self.start), ledger=self.ledger, errors=self.errors, words=room)
 
     def run(self, latest):
-        ledger, errors, amounts = self.ledger.expand(), self.errors.expand(), room_of_numbers(self.amounts).expand()
+        ledger, errors, amounts = self.ledger.expand(), signed(self.errors.expand()), signed(room_of_numbers(self.amounts).expand())
         return reference.project_lines(ledger, self.n, self.start, errors, amounts), [ledger, errors, amounts]
 
 
@@ -207,7 +118,7 @@ class Judge:
         return fields(6, self.level, (self.n, self.start, self.te), ledger=self.ledger, errors=self.errors)
 
     def run(self, latest):
-        ledger, errors = self.ledger.expand(), self.errors.expand()
+        ledger, errors = self.ledger.expand(), signed(self.errors.expand())
         return reference.judge(self.level, ledger, self.n, self.start, errors, self.te), [ledger, errors]
 
 
@@ -226,7 +137,8 @@ class Read:
         return fields(7, ledger=values, errors=errors, words=words) + self.file.pack()
 
     def run(self, latest):
-        file, rooms = self.file.expand(latest), [room.expand() for room in self.rooms()]
+        file, (words, values, errors) = self.file.expand(latest), (room.expand() for room in self.rooms())
+        rooms = words, values, signed(errors)
         return reference.read(file, *rooms), [file, *rooms]
 
 
@@ -245,5 +157,5 @@ class Write:
         return fields(8, self.level, (self.te, self.ae), self.out, **lists)
 
     def run(self, latest):
-        lists, latest[:] = [way.expand() for way in (self.words, self.values, self.errors)], room_of_bytes(self.out)
+        lists, latest[:] = (self.words.expand(), self.values.expand(), signed(self.errors.expand())), room_of_bytes(self.out)
         return reference.write(self.level, self.te, self.ae, *lists, latest), [*lists, latest]

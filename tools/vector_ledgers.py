@@ -2,7 +2,7 @@
 
 import reference
 from reference import MOST_VALUE, Refusal
-from vector_forms import MOST_WORD, Generated, equal, listed
+from vector_lists import MOST_WORD, Generated, equal, listed
 
 # The largest interval before document 02's K4; at 2^32 and above error × interval may pass 64 bits.
 BASE_INTERVAL = 4_000_000_000

@@ -1,7 +1,8 @@
 """The cases of the projected lines: those of the projection, each with a room for the amounts, and rooms of another length."""
 
 from vector_errors import long_errors, projected_cases, projected_edges
-from vector_forms import MOST_WORD, Lines, equal, listed
+from vector_forms import Lines
+from vector_lists import MOST_ERROR, MOST_WORD, equal, listed
 from vector_wide import filled, wide_ledgers
 
 
@@ -14,7 +15,7 @@ def lengths_differ():
     """13 for the errors alone, the amounts alone and both, after 2 and before all else; and no lines at all."""
     for lines, errors, amounts in (4, 3, 4), (4, 4, 3), (4, 4, 5), (4, 5, 5), (4, 3, 5), (4, 0, 0), (0, 0, 0), (0, 1, 0), (0, 0, 1):
         for value in 30, MOST_WORD:
-            yield Lines(equal(lines, value), equal(errors, MOST_WORD), 0, MOST_WORD, amounts)
+            yield Lines(equal(lines, value), equal(errors, MOST_ERROR), 0, MOST_WORD, amounts)
             yield Lines(equal(lines, value), equal(errors), 3, 0, amounts)
 
 

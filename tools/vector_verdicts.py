@@ -2,7 +2,8 @@
 
 import reference
 from reference import EF, MOST_VALUE, Refusal
-from vector_forms import Judge, equal, listed
+from vector_forms import Judge
+from vector_lists import equal, listed
 
 
 def verdict_edges(level, ledger, errors, n, first_point):

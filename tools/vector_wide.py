@@ -4,8 +4,9 @@ import math
 
 from reference import EF, MOST_INTERVAL, MOST_VALUE
 from vector_errors import errors_found
-from vector_forms import MOST_WORD, Draw, Judge, Project, Split, Start, listed
+from vector_forms import Draw, Judge, Project, Split, Start
 from vector_ledgers import BASE_INTERVAL, WIDE, interval_of, starts_for
+from vector_lists import MOST_WORD, listed
 
 
 def wide_ledgers(r):

@@ -26,9 +26,10 @@ LONGEST_CASE = 65_536
 
 
 def digest(entries):
+    """An entry below 0 counts with its 64-bit pattern."""
     h = 1
     for x in entries:
-        h = (h * 31 + x) % PRIME
+        h = (h * 31 + x % 2**64) % PRIME
     return h
 
 

@@ -28,7 +28,8 @@ void expect(int good, const char *what)
 
 /* Buffers with a margin that no call may touch, and their content before a call. */
 static uint8_t bytes[46000], bytes_before[46000];
-static uint64_t words[100], values[2100], errors[2100], words_before[100], values_before[2100], errors_before[2100];
+static uint64_t words[100], values[2100], words_before[100], values_before[2100];
+static int64_t errors[2100], errors_before[2100];
 
 static void fill(void)
 {
@@ -36,7 +37,7 @@ static void fill(void)
     for (size_t i = 0; i < 100; i++) words[i] = i * 5 + 1;
     for (size_t i = 0; i < 2100; i++) {
         values[i] = i * 9 + 2;
-        errors[i] = i * 11 + 4;
+        errors[i] = (int64_t) (i * 11 + 4);
     }
     memcpy(bytes_before, bytes, sizeof bytes);
     memcpy(words_before, words, sizeof words);
@@ -56,7 +57,8 @@ static void wrote(const uint8_t *wanted, size_t count, const char *what)
     expect(memcmp(bytes, wanted, count) == 0 && memcmp(bytes + count, bytes_before + count, sizeof bytes - count) == 0, what);
 }
 
-static const uint64_t rounds[] = {500, 120, 0, 80, 300}, practice[] = {30, 30, 40, 20}, found[] = {7, 0, 10, 5}, none[] = {0, 0, 0, 0};
+static const uint64_t rounds[] = {500, 120, 0, 80, 300}, practice[] = {30, 30, 40, 20}, zeros[] = {0, 0, 0, 0};
+static const int64_t found[] = {7, 0, 10, 5}, understated[] = {-7, 0, 10, 5}, none[] = {0, 0, 0, 0};
 
 static void size_cases(void)
 {
@@ -116,7 +118,7 @@ static void split_cases(void)
     for (size_t i = 0; i < 101; i++) heavy[i] = MUS_MOST_VALUE;
     r = mus_split(heavy, 101, 4, bytes, 101);
     SAME(r, "split: 4", 4, 100, 0, 0, 0, 0, 0);
-    r = mus_split(none, 4, 4, bytes, 4);
+    r = mus_split(zeros, 4, 4, bytes, 4);
     SAME(r, "split: 5", 5, 0, 0, 0, 0, 0, 0);
     unchanged("a refused split changes nothing");
 }
@@ -124,14 +126,15 @@ static void split_cases(void)
 static void many_lines(void)
 {
     static uint64_t many[1000001];
+    static int64_t errors_of_many[1000001];
     static uint8_t marks[1000001];
     size_t kept = 0;
     memset(marks, 9, sizeof marks);
     for (size_t i = 0; i < 1000001; i++) many[i] = 1;
     struct mus_split_result r = mus_split(many, 1000001, 4, marks, 1000001);
     SAME(r, "split: 2", 2, 0, 0, 0, 0, 0, 0);
-    struct mus_judge_result j = mus_judge(90, many, 1000001, 4, 0, many, 1000001, 1);
-    SAME(j, "judge: 2", 2, 0, 0, 0, 0, 0, 0, 0);
+    struct mus_judge_result j = mus_judge(90, many, 1000001, 4, 0, errors_of_many, 1000001, 1);
+    SAME(j, "judge: 2", 2, 0, 0, 0, 0, 0, 0, 0, 0, 0, 0);
     while (kept < sizeof marks && marks[kept] == 9) kept++;
     expect(kept == sizeof marks, "refusal 2 leaves the marks");
     r = mus_split(many, 1000000, 4, marks, 1000000);
@@ -188,92 +191,123 @@ static void draw_cases(void)
 
 static void project_cases(void)
 {
-    static const uint64_t drawn[] = {7, 0, 10, 5}, above[] = {7, 31, 10, 5};
-    struct mus_project_result r = mus_project(practice, 4, 3, 25, drawn, 4);
-    SAME(r, "projection from 25", 0, 0, 0, 30, 3);
+    static const int64_t above[] = {7, 31, 10, 5};
+    struct mus_project_result r = mus_project(practice, 4, 3, 25, found, 4);
+    SAME(r, "projection from 25", 0, 0, 0, 30, 3, 0, 0, 30);
     r = mus_project(practice, 4, 3, 25, none, 4);
-    SAME(r, "projection of no errors", 0, 0, 0, 0, 0);
+    SAME(r, "projection of no errors", 0, 0, 0, 0, 0, 0, 0, 0);
     r = mus_project(practice, 4, 3, 0, found, 4);
-    SAME(r, "projection: 15", 15, 3, 0, 0, 0);
+    SAME(r, "projection: 15", 15, 3, 0, 0, 0, 0, 0, 0);
     r = mus_project(practice, 4, 3, 25, above, 4);
-    SAME(r, "projection: 14", 14, 1, 0, 0, 0);
+    SAME(r, "projection: 14", 14, 1, 0, 0, 0, 0, 0, 0);
     r = mus_project(practice, 4, 3, 41, found, 4);
-    SAME(r, "projection: 11", 11, 0, 0, 0, 0);
+    SAME(r, "projection: 11", 11, 0, 0, 0, 0, 0, 0, 0);
     r = mus_project(practice, 4, 3, 25, NULL, 0);
-    SAME(r, "projection: 13", 13, 0, 0, 0, 0);
+    SAME(r, "projection: 13", 13, 0, 0, 0, 0, 0, 0, 0);
     r = mus_project(NULL, 0, 3, 0, NULL, 0);
-    SAME(r, "projection: 5 without lines", 5, 0, 0, 0, 0);
+    SAME(r, "projection: 5 without lines", 5, 0, 0, 0, 0, 0, 0, 0);
+}
+
+/* Errors below 0: a line of each kind, the value and one cent beyond it, the least number there is, and lines that are not drawn. */
+static void understated_cases(void)
+{
+    static const int64_t grants[] = {-50, 12, 0, -8, 3}, whole[] = {-30, 0, 0, 0}, beyond[] = {-31, 0, 0, 0}, least[] = {0, 0, 0, INT64_MIN}, elsewhere[] = {0, -1, 0, 0};
+    struct mus_project_result r = mus_project(practice, 4, 3, 25, understated, 4);
+    SAME(r, "a drawn line understated", 0, 0, 0, 20, 2, 0, 10, 10);
+    r = mus_project(rounds, 5, 4, 79, grants, 5);
+    SAME(r, "full lines of each kind, and a net below 0", 0, 0, 15, 0, 0, 50, 8, (uint64_t) -43);
+    r = mus_project(practice, 4, 3, 25, whole, 4);
+    SAME(r, "the whole value understated", 0, 0, 0, 0, 0, 0, 40, (uint64_t) -40);
+    r = mus_project(practice, 4, 3, 25, beyond, 4);
+    SAME(r, "projection: 14 for one cent less", 14, 0, 0, 0, 0, 0, 0, 0);
+    r = mus_project(practice, 4, 3, 25, least, 4);
+    SAME(r, "projection: 14 for the least number", 14, 3, 0, 0, 0, 0, 0, 0);
+    r = mus_project(practice, 4, 3, 25, elsewhere, 4);
+    SAME(r, "projection: 15 for an understatement", 15, 1, 0, 0, 0, 0, 0, 0);
 }
 
 static void lines_cases(void)
 {
-    static const uint64_t line[] = {UINT64_C(100000000000)}, beside_full[] = {50, 0, 0, 8, 3}, amounts[] = {10, 0, 10, 10}, above[] = {7, 31, 10, 5};
+    static const uint64_t line[] = {UINT64_C(100000000000)};
+    static const int64_t whole[] = {INT64_C(100000000000)}, less[] = {INT64_C(-100000000000)}, beside_full[] = {50, 0, 0, -8, -3}, above[] = {7, 31, 10, 5};
+    static const int64_t at_25[] = {10, 0, 10, 10}, below[] = {-10, 0, 10, 10};
     struct mus_project_result r;
     fill();
-    r = mus_project_lines(practice, 4, 3, 25, found, 4, values, 4);
-    SAME(r, "lines from 25", 0, 0, 0, 30, 3);
-    expect(memcmp(values, amounts, sizeof amounts) == 0 && memcmp(values + 4, values_before + 4, sizeof values - 32) == 0, "amounts from 25");
+    r = mus_project_lines(practice, 4, 3, 25, found, 4, errors, 4);
+    SAME(r, "lines from 25", 0, 0, 0, 30, 3, 0, 0, 30);
+    expect(memcmp(errors, at_25, sizeof at_25) == 0 && memcmp(errors + 4, errors_before + 4, sizeof errors - 32) == 0, "amounts from 25");
     fill();
-    r = mus_project_lines(rounds, 5, 4, 79, beside_full, 5, values, 5);
-    SAME(r, "lines beside full ones", 0, 0, 53, 8, 1);
-    expect(memcmp(values, beside_full, sizeof beside_full) == 0, "amounts beside full lines");
+    r = mus_project_lines(practice, 4, 3, 25, understated, 4, errors, 4);
+    SAME(r, "lines with one understated", 0, 0, 0, 20, 2, 0, 10, 10);
+    expect(memcmp(errors, below, sizeof below) == 0 && memcmp(errors + 4, errors_before + 4, sizeof errors - 32) == 0, "amounts with one below 0");
     fill();
-    r = mus_project_lines(line, 1, 1, 99999999999, line, 1, values, 1);
-    SAME(r, "lines where the product has 74 bits", 0, 0, 0, 100000000000, 1);
-    expect(values[0] == line[0] && values[1] == values_before[1], "the amount where the product has 74 bits");
+    r = mus_project_lines(rounds, 5, 4, 79, beside_full, 5, errors, 5);
+    SAME(r, "lines beside full ones", 0, 0, 50, 0, 0, 3, 8, 39);
+    expect(memcmp(errors, beside_full, sizeof beside_full) == 0, "amounts beside full lines");
     fill();
-    r = mus_project_lines(practice, 4, 3, 0, found, 4, values, 4);
-    SAME(r, "lines: 15", 15, 3, 0, 0, 0);
-    r = mus_project_lines(practice, 4, 3, 25, values, 4, words, 4);
-    SAME(r, "lines: 15 on a line before the last", 15, 1, 0, 0, 0);
-    r = mus_project_lines(practice, 4, 3, 25, above, 4, values, 4);
-    SAME(r, "lines: 14", 14, 1, 0, 0, 0);
-    r = mus_project_lines(practice, 4, 3, 40, found, 4, values, 4);
-    SAME(r, "lines: 11", 11, 0, 0, 0, 0);
-    r = mus_project_lines(practice, 4, 0, 0, found, 4, values, 4);
-    SAME(r, "lines: 8", 8, 0, 0, 0, 0);
-    r = mus_project_lines(practice, 4, 3, 25, found, 4, values, 3);
-    SAME(r, "lines: 13 for the amounts", 13, 0, 0, 0, 0);
-    r = mus_project_lines(practice, 4, 3, 25, found, 3, values, 4);
-    SAME(r, "lines: 13 for the errors", 13, 0, 0, 0, 0);
+    r = mus_project_lines(line, 1, 1, 99999999999, whole, 1, errors, 1);
+    SAME(r, "lines where the product has 74 bits", 0, 0, 0, 100000000000, 1, 0, 0, 100000000000);
+    expect(errors[0] == whole[0] && errors[1] == errors_before[1], "the amount where the product has 74 bits");
+    r = mus_project_lines(line, 1, 1, 99999999999, less, 1, errors, 1);
+    SAME(r, "the same understated", 0, 0, 0, 0, 0, 0, 100000000000, (uint64_t) -100000000000);
+    expect(errors[0] == less[0] && errors[1] == errors_before[1], "its amount");
+    fill();
+    r = mus_project_lines(practice, 4, 3, 0, found, 4, errors, 4);
+    SAME(r, "lines: 15", 15, 3, 0, 0, 0, 0, 0, 0);
+    r = mus_project_lines(practice, 4, 3, 25, above, 4, errors, 4);
+    SAME(r, "lines: 14", 14, 1, 0, 0, 0, 0, 0, 0);
+    r = mus_project_lines(practice, 4, 3, 40, found, 4, errors, 4);
+    SAME(r, "lines: 11", 11, 0, 0, 0, 0, 0, 0, 0);
+    r = mus_project_lines(practice, 4, 0, 0, found, 4, errors, 4);
+    SAME(r, "lines: 8", 8, 0, 0, 0, 0, 0, 0, 0);
+    r = mus_project_lines(practice, 4, 3, 25, found, 4, errors, 3);
+    SAME(r, "lines: 13 for the amounts", 13, 0, 0, 0, 0, 0, 0, 0);
+    r = mus_project_lines(practice, 4, 3, 25, found, 3, errors, 4);
+    SAME(r, "lines: 13 for the errors", 13, 0, 0, 0, 0, 0, 0, 0);
     r = mus_project_lines(practice, 4, 3, 25, found, 4, NULL, 0);
-    SAME(r, "lines: 13 without amounts", 13, 0, 0, 0, 0);
+    SAME(r, "lines: 13 without amounts", 13, 0, 0, 0, 0, 0, 0, 0);
     r = mus_project_lines(NULL, 0, 3, 0, NULL, 0, NULL, 0);
-    SAME(r, "lines: 5 without lines", 5, 0, 0, 0, 0);
+    SAME(r, "lines: 5 without lines", 5, 0, 0, 0, 0, 0, 0, 0);
     unchanged("refused lines change nothing");
 }
 
 static void judge_cases(void)
 {
-    static uint64_t tens[64], ones[64];
+    static uint64_t tens[70];
+    static int64_t ones[70];
     struct mus_judge_result r = mus_judge(90, practice, 4, 3, 25, found, 4, 100);
-    SAME(r, "judgement at 90", 0, 0, 0, 30, 3, 107, 137, MUS_INCONCLUSIVE);
+    SAME(r, "judgement at 90", 0, 0, 0, 30, 3, 0, 0, 30, 107, 137, MUS_INCONCLUSIVE);
+    r = mus_judge(90, practice, 4, 3, 25, understated, 4, 100);
+    SAME(r, "judgement with a line understated", 0, 0, 0, 20, 2, 0, 10, 10, 103, 123, MUS_INCONCLUSIVE);
     r = mus_judge(50, practice, 4, 3, 25, found, 4, 100);
-    SAME(r, "judgement at 50", 0, 0, 0, 30, 3, 28, 58, MUS_BELOW);
+    SAME(r, "judgement at 50", 0, 0, 0, 30, 3, 0, 0, 30, 28, 58, MUS_BELOW);
     r = mus_judge(50, practice, 4, 3, 25, found, 4, 59);
-    SAME(r, "a limit one cent under TE", 0, 0, 0, 30, 3, 28, 58, MUS_BELOW);
+    SAME(r, "a limit one cent under TE", 0, 0, 0, 30, 3, 0, 0, 30, 28, 58, MUS_BELOW);
     r = mus_judge(50, practice, 4, 3, 25, found, 4, 58);
-    SAME(r, "a limit equal to TE", 0, 0, 0, 30, 3, 28, 58, MUS_INCONCLUSIVE);
+    SAME(r, "a limit equal to TE", 0, 0, 0, 30, 3, 0, 0, 30, 28, 58, MUS_INCONCLUSIVE);
     r = mus_judge(50, practice, 4, 3, 25, found, 4, 30);
-    SAME(r, "a projected error equal to TE", 0, 0, 0, 30, 3, 28, 58, MUS_INCONCLUSIVE);
+    SAME(r, "a projected error equal to TE", 0, 0, 0, 30, 3, 0, 0, 30, 28, 58, MUS_INCONCLUSIVE);
     r = mus_judge(50, practice, 4, 3, 25, found, 4, 29);
-    SAME(r, "judgement above", 0, 0, 0, 30, 3, 28, 58, MUS_ABOVE);
+    SAME(r, "judgement above", 0, 0, 0, 30, 3, 0, 0, 30, 28, 58, MUS_ABOVE);
+    r = mus_judge(50, practice, 4, 3, 25, understated, 4, 19);
+    SAME(r, "judgement above, whatever the net", 0, 0, 0, 20, 2, 0, 10, 10, 28, 48, MUS_ABOVE);
     r = mus_judge(91, practice, 4, 3, 25, found, 4, 100);
-    SAME(r, "judgement: 1", 1, 0, 0, 0, 0, 0, 0, 0);
+    SAME(r, "judgement: 1", 1, 0, 0, 0, 0, 0, 0, 0, 0, 0, 0);
     r = mus_judge(90, practice, 4, 3, 25, found, 4, 121);
-    SAME(r, "judgement: 6", 6, 0, 0, 0, 0, 0, 0, 0);
+    SAME(r, "judgement: 6", 6, 0, 0, 0, 0, 0, 0, 0, 0, 0, 0);
     r = mus_judge(90, practice, 4, 3, 0, found, 4, 100);
-    SAME(r, "judgement: 15", 15, 3, 0, 0, 0, 0, 0, 0);
+    SAME(r, "judgement: 15", 15, 3, 0, 0, 0, 0, 0, 0, 0, 0, 0);
     r = mus_judge(90, NULL, 0, 3, 0, NULL, 0, 1);
-    SAME(r, "judgement: 5 without lines", 5, 0, 0, 0, 0, 0, 0, 0);
-    for (size_t i = 0; i < 64; i++) {
+    SAME(r, "judgement: 5 without lines", 5, 0, 0, 0, 0, 0, 0, 0, 0, 0, 0);
+    for (size_t i = 0; i < 70; i++) {
         tens[i] = 10;
-        ones[i] = 1;
+        ones[i] = i < 64 ? 1 : -10;
     }
-    r = mus_judge(90, tens, 64, 64, 0, ones, 64, 640);
-    SAME(r, "judgement: 16", 16, 0, 0, 0, 0, 0, 0, 0);
+    r = mus_judge(90, tens, 70, 70, 0, ones, 70, 640);
+    SAME(r, "judgement: 16", 16, 0, 0, 0, 0, 0, 0, 0, 0, 0, 0);
     ones[63] = 0;
-    expect(mus_judge(90, tens, 64, 64, 0, ones, 64, 640).m == 63, "63 errors pass");
+    r = mus_judge(90, tens, 70, 70, 0, ones, 70, 640);
+    expect(r.m == 63 && r.under_sampled == 60 && r.net == 3, "63 overstatements pass, and understatements beside them do not count");
 }
 
 /* The practice sheet's working file. */
@@ -284,6 +318,52 @@ static const uint8_t practice_file[] = {
     'E', 0, 0, 0, 0, 7, 0, 0, 0, 0, 0, 0, 0, 'E', 2, 0, 0, 0, 10, 0, 0, 0, 0, 0, 0, 0, 'E', 3, 0, 0, 0, 5, 0, 0, 0, 0, 0, 0, 0,
     'Z', 4, 0, 0, 0, 120, 0, 0, 0, 0, 0, 0, 0,
 };
+
+/* A file whose errors are those given, at the front of the bytes; read back they are the same. */
+static void errors_again(const int64_t *given, const char *kinds, const char *what)
+{
+    size_t length = 31 + 9 * 4 + 13 * strlen(kinds);
+    struct mus_write_result w;
+    fill();
+    w = mus_write(90, 100, 0, NULL, 0, practice, 4, given, 4, bytes, sizeof bytes);
+    SAME(w, what, 0, 0, length);
+    for (size_t i = 0; kinds[i] != 0; i++) expect(bytes[18 + 9 * 4 + 13 * i] == (uint8_t) kinds[i], what);
+    expect(mus_read(bytes, length, words, 64, values, 2048, errors, 2048).lines == 4 && memcmp(errors, given, 4 * sizeof *given) == 0, what);
+}
+
+/* What breaks a rule of U, or of E: a size of 0, one too large, a line of another before it. */
+static void kinds_broken(void)
+{
+    static const uint8_t lines_and_u[] = {'L', 9, 0, 0, 0, 0, 0, 0, 0, 'U', 0, 0, 0, 0, 1, 0, 0, 0, 0, 0, 0, 0};
+    uint8_t file[sizeof practice_file];
+    struct mus_read_result r;
+    memcpy(file, practice_file, sizeof file);
+    file[72] = 'U';
+    r = mus_read(file, sizeof file, words, 64, values, 2048, errors, 2048);
+    SAME(r, "U for the first E", 0, 0, 90, 100, 0, 2, 4);
+    expect(errors[0] == -7 && errors[1] == 0 && errors[2] == 10, "an understatement read");
+    fill();
+    file[72 + 12] = 0x80;
+    r = mus_read(file, sizeof file, words, 64, values, 2048, errors, 2048);
+    SAME(r, "read: 17 for a U above 2^63", 17, 72, 0, 0, 0, 0, 0);
+    file[72] = 'E';
+    file[72 + 5] = 0;
+    r = mus_read(file, sizeof file, words, 64, values, 2048, errors, 2048);
+    SAME(r, "read: 17 for an E of 2^63", 17, 72, 0, 0, 0, 0, 0);
+    file[72 + 12] = 0;
+    file[72] = 'U';
+    r = mus_read(file, sizeof file, words, 64, values, 2048, errors, 2048);
+    SAME(r, "read: 17 for a U of 0", 17, 72, 0, 0, 0, 0, 0);
+    memcpy(file, practice_file, sizeof file);
+    file[85] = 'U';
+    file[85 + 1] = 0;
+    r = mus_read(file, sizeof file, words, 64, values, 2048, errors, 2048);
+    SAME(r, "read: 17 for a U on the line of an E", 17, 85, 0, 0, 0, 0, 0);
+    memcpy(file + 36, lines_and_u, sizeof lines_and_u);
+    r = mus_read(file, sizeof file, words, 64, values, 2048, errors, 2048);
+    SAME(r, "read: 17 for what follows a U and is neither", 17, 36 + sizeof lines_and_u, 0, 0, 0, 0, 0);
+    unchanged("a refused read changes nothing, with U");
+}
 
 static void read_cases(void)
 {
@@ -314,6 +394,7 @@ static void read_cases(void)
 static void write_cases(void)
 {
     static const uint64_t lent[] = {63, 25}, most[] = {UINT64_MAX, 1, 0, 0};
+    static const int64_t widest[] = {INT64_MAX, INT64_MIN, 0, -1};
     size_t length = sizeof practice_file;
     struct mus_write_result r;
     fill();
@@ -339,6 +420,8 @@ static void write_cases(void)
     unchanged("a refused write changes nothing");
     r = mus_write(90, 100, 0, NULL, 0, NULL, 0, NULL, 0, bytes, 31);
     SAME(r, "an empty content written", 0, 0, 31);
+    errors_again(understated, "UEE", "an understatement written and read");
+    errors_again(widest, "EUU", "the widest errors written and read");
 }
 
 #ifndef WITHOUT_SHEET
@@ -354,6 +437,7 @@ static void printed(struct mus_sheet_result r, const uint8_t *page, const char *
 static void sheet_cases(void)
 {
     static uint8_t page[MUS_LONGEST_TEXT + 9];
+    uint8_t file[sizeof practice_file];
     struct mus_sheet_result r;
     size_t kept = 0;
     memset(page, 0xA5, sizeof page);
@@ -364,7 +448,12 @@ static void sheet_cases(void)
     while (kept < sizeof page && page[kept] == 0xA5) kept++;
     expect(kept == sizeof page, "a refused sheet changes nothing");
     r = mus_sheet(practice_file, sizeof practice_file, page, MUS_LONGEST_TEXT);
-    printed(r, page, "plan 90 120 100 0 3\nsplit 40 3 120 0 0\nstart 25 2\ndrawn 0 30 7 10\ndrawn 2 40 10 10\ndrawn 3 20 5 10\nproject 0 30 3\njudge 107 137 inconclusive\n", "the practice sheet");
+    printed(r, page, "plan 90 120 100 0 3\nsplit 40 3 120 0 0\nstart 25 2\ndrawn 0 30 7 10\ndrawn 2 40 10 10\ndrawn 3 20 5 10\nproject 0 30 3 0 0 30\njudge 107 137 inconclusive\n", "the practice sheet");
+    memcpy(file, practice_file, sizeof file);
+    file[72] = 'U';
+    memset(page, 0xA5, sizeof page);
+    r = mus_sheet(file, sizeof file, page, sizeof page);
+    printed(r, page, "plan 90 120 100 0 3\nsplit 40 3 120 0 0\nstart 25 2\ndrawn 0 30 -7 -10\ndrawn 2 40 10 10\ndrawn 3 20 5 10\nproject 0 20 2 0 10 10\njudge 103 123 inconclusive\n", "the sheet with line 0 understated");
     memset(page, 0xA5, sizeof page);
     r = mus_sheet(NULL, 0, page, sizeof page);
     printed(r, page, "refused 17 0\n", "the sheet of no file");
@@ -379,9 +468,11 @@ int main(int argc, char **argv)
     start_cases();
     draw_cases();
     project_cases();
+    understated_cases();
     lines_cases();
     judge_cases();
     read_cases();
+    kinds_broken();
     write_cases();
 #ifndef WITHOUT_SHEET
     sheet_cases();

@@ -7,6 +7,7 @@
 #define LINES 4
 
 typedef unsigned long long whole; /* what printf takes */
+typedef long long with_sign;
 
 static int refused(uint64_t refusal, uint64_t place)
 {
@@ -18,11 +19,12 @@ int main(void)
 {
     static const char *const verdicts[] = {"", "below", "inconclusive", "above"};
     const uint64_t ledger[LINES] = {30, 30, 40, 20}; /* book values in cents */
-    const uint64_t errors[LINES] = {7, 0, 10, 5};    /* the errors that were found, 0 elsewhere */
+    const int64_t errors[LINES] = {7, 0, 10, 5};     /* the errors that were found, below 0 where too little was claimed; 0 elsewhere */
     const uint64_t words[] = {63, 25};               /* random words */
     const uint8_t level = 90;
     const uint64_t te = 100, ae = 0;
-    uint64_t total = 0, amounts[LINES];
+    uint64_t total = 0;
+    int64_t amounts[LINES];
     uint8_t marks[LINES];
 
     for (size_t i = 0; i < LINES; i++) total += ledger[i];
@@ -49,9 +51,9 @@ int main(void)
     printf("split %llu %llu %llu %llu %llu\n", (whole) split.interval, (whole) split.draws_left, (whole) split.sampled_total, (whole) split.full_lines, (whole) split.full_total);
     printf("start %llu %llu\n", (whole) first.start, (whole) first.words);
     for (size_t i = 0; i < LINES; i++) {
-        if (marks[i] != MUS_NOT_DRAWN) printf("%s %zu %llu %llu %llu\n", marks[i] == MUS_FULL ? "full" : "drawn", i, (whole) ledger[i], (whole) errors[i], (whole) amounts[i]);
+        if (marks[i] != MUS_NOT_DRAWN) printf("%s %zu %llu %lld %lld\n", marks[i] == MUS_FULL ? "full" : "drawn", i, (whole) ledger[i], (with_sign) errors[i], (with_sign) amounts[i]);
     }
-    printf("project %llu %llu %llu\n", (whole) projection.full, (whole) projection.sampled, (whole) projection.m);
+    printf("project %llu %llu %llu %llu %llu %lld\n", (whole) projection.full, (whole) projection.sampled, (whole) projection.m, (whole) projection.under_full, (whole) projection.under_sampled, (with_sign) projection.net);
     printf("judge %llu %llu %s\n", (whole) judgement.precision, (whole) judgement.upper_limit, verdicts[judgement.verdict]);
     return 0;
 }

@@ -15,11 +15,13 @@ static uint8_t input[CASE_ROOM]; /* one case */
 static size_t input_length, at;
 static int broken; /* a case ends too early, or asks for more than there is room for */
 
-/* The fields of a case. A list is an operation's input, or for a read a room that is lent with this content. */
+/* The fields of a case. A list is an operation's input, or a room that is lent with this content: a read's, or that for the amounts. Errors and
+ * amounts are stored as their 64-bit patterns. */
 static uint8_t level;
 static uint64_t first, second, third;
 static size_t room_length, ledger_length, errors_length, words_length;
-static uint64_t ledger[MOST_ENTRIES], errors[MOST_ENTRIES], words[MOST_ENTRIES];
+static uint64_t ledger[MOST_ENTRIES], words[MOST_ENTRIES];
+static int64_t errors[MOST_ENTRIES], amounts[MOST_ENTRIES];
 static uint8_t file[MOST_ENTRIES], bytes[MOST_ENTRIES]; /* `bytes` is the room of bytes that was lent last */
 static size_t latest_room;
 
@@ -106,7 +108,7 @@ static void fields(void)
     third = number(8);
     room_length = length_field();
     ledger_length = list(ledger);
-    errors_length = list(errors);
+    errors_length = list((uint64_t *) errors);
     words_length = list(words);
 }
 
@@ -124,6 +126,16 @@ static void say_number(uint64_t n)
     say(text);
 }
 
+static void say_signed(int64_t n)
+{
+    char text[24];
+    snprintf(text, sizeof text, " %lld", (long long) n);
+    say(text);
+}
+
+/* The net is the sixth figure where it is one, and the only one with a sign. */
+#define NET 5
+
 /* The figures of an accepted call, or the refusal. */
 static void say_answer(uint64_t refusal, uint64_t place, const uint64_t *figures, int count)
 {
@@ -137,7 +149,9 @@ static void say_answer(uint64_t refusal, uint64_t place, const uint64_t *figures
         return;
     }
     if (place != 0) say(" (a place that is not 0)");
-    for (int i = 0; i < count; i++) say_number(figures[i]);
+    for (int i = 0; i < count; i++) {
+        if (i == NET) say_signed((int64_t) figures[i]); else say_number(figures[i]);
+    }
 }
 
 static void say_list(const uint64_t *entries, size_t count)
@@ -145,6 +159,11 @@ static void say_list(const uint64_t *entries, size_t count)
     uint64_t h = 1;
     for (size_t i = 0; i < count; i++) h = (h * 31 + entries[i] % DIGEST) % DIGEST;
     say_number(h);
+}
+
+static void say_errors(const int64_t *entries, size_t count)
+{
+    say_list((const uint64_t *) entries, count);
 }
 
 static void say_bytes(const uint8_t *entries, size_t count)
@@ -197,27 +216,30 @@ static void project_case(void)
 {
     struct mus_project_result r = mus_project(ledger, ledger_length, first, second, errors, errors_length);
     say(" project");
-    say_answer(r.refusal, r.place, &r.full, 3);
+    say_answer(r.refusal, r.place, &r.full, 6);
     say(" lent");
     say_list(ledger, ledger_length);
-    say_list(errors, errors_length);
+    say_errors(errors, errors_length);
 }
 
 /* The words are the room for the amounts. */
 static void lines_case(void)
 {
-    struct mus_project_result r = mus_project_lines(ledger, ledger_length, first, second, errors, errors_length, words, words_length);
+    int64_t added = 0;
+    memcpy(amounts, words, words_length * sizeof *words);
+    struct mus_project_result r = mus_project_lines(ledger, ledger_length, first, second, errors, errors_length, amounts, words_length);
     struct mus_project_result whole = mus_project(ledger, ledger_length, first, second, errors, errors_length);
-    uint64_t added = 0;
-    for (size_t i = 0; i < words_length; i++) added += words[i];
     if (words_length == ledger_length) expect(memcmp(&r, &whole, sizeof r) == 0, "the lines' projection is the projection");
-    if (r.refusal == MUS_ACCEPTED) expect(added == r.full + r.sampled, "the amounts add to both sums");
+    if (r.refusal == MUS_ACCEPTED) {
+        for (size_t i = 0; i < words_length; i++) added += amounts[i];
+        expect(added == r.net, "the amounts add to the net");
+    }
     say(" lines");
-    say_answer(r.refusal, r.place, &r.full, 3);
+    say_answer(r.refusal, r.place, &r.full, 6);
     say(" lent");
     say_list(ledger, ledger_length);
-    say_list(errors, errors_length);
-    say_list(words, words_length);
+    say_errors(errors, errors_length);
+    say_errors(amounts, words_length);
 }
 
 static void judge_case(void)
@@ -225,12 +247,12 @@ static void judge_case(void)
     static const char *const verdicts[] = {" below", " inconclusive", " above"};
     struct mus_judge_result r = mus_judge(level, ledger, ledger_length, first, second, errors, errors_length, third);
     say(" judge");
-    say_answer(r.refusal, r.place, &r.full, 5);
+    say_answer(r.refusal, r.place, &r.full, 8);
     if (r.refusal == 0) say(r.verdict >= 1 && r.verdict <= 3 ? verdicts[r.verdict - 1] : " (no verdict)");
     else if (r.verdict != 0) say(" (a verdict)");
     say(" lent");
     say_list(ledger, ledger_length);
-    say_list(errors, errors_length);
+    say_errors(errors, errors_length);
 }
 
 static void read_case(void)
@@ -243,7 +265,7 @@ static void read_case(void)
     say_bytes(file, length);
     say_list(words, words_length);
     say_list(ledger, ledger_length);
-    say_list(errors, errors_length);
+    say_errors(errors, errors_length);
 }
 
 static void write_case(void)
@@ -255,7 +277,7 @@ static void write_case(void)
     say(" lent");
     say_list(words, words_length);
     say_list(ledger, ledger_length);
-    say_list(errors, errors_length);
+    say_errors(errors, errors_length);
     say_bytes(bytes, room_length);
 }
 

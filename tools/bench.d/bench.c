@@ -11,7 +11,8 @@
 
 #define MOST 1000000
 
-static uint64_t ledger[MOST], errors[MOST], amounts[MOST], words[64], values_room[2048], errors_room[2048], words_room[64];
+static uint64_t ledger[MOST], words[64], values_room[2048], words_room[64];
+static int64_t errors[MOST], amounts[MOST], errors_room[2048];
 static uint8_t marks[MOST], file[MUS_LONGEST_FILE];
 static size_t lines, file_length = sizeof file;
 static uint64_t draws, start, te, file_te = 20000, file_ae = 4000, file_words = 64, rounds, seed = 1;
@@ -86,28 +87,40 @@ static uint64_t deep_ledger(void)
     }
 }
 
-/* So many of the drawn lines have an error. */
+/* So many of the drawn lines have an error, too much claimed. */
 static void find_errors(unsigned count)
 {
     mus_draw(ledger, lines, draws, start, marks, lines);
     for (size_t i = 0; i < lines && count > 0; i++) {
         if (marks[i] != MUS_DRAWN) continue;
-        errors[i] = 1 + next_random(ledger[i]);
+        errors[i] = (int64_t) (1 + next_random(ledger[i]));
         count--;
     }
     te = 1;
     memset(marks, 0, lines);
 }
 
-/* The longest content: every line has an error. */
+/* Every second error is an understatement. */
+static void turn_errors(void)
+{
+    int turned = 0;
+    for (size_t i = 0; i < lines; i++) {
+        if (errors[i] == 0) continue;
+        if (turned) errors[i] = -errors[i];
+        turned = !turned;
+    }
+}
+
+/* The longest content: every line has an error, every second one an understatement. */
 static void longest_content(void)
 {
     lines = MUS_MOST_FILE_LINES;
     for (size_t i = 0; i < 64; i++) words[i] = next_random(UINT64_C(0x7FFFFFFF));
     for (size_t i = 0; i < lines; i++) {
         ledger[i] = 1000 + next_random(9001);
-        errors[i] = 1 + next_random(1000);
+        errors[i] = (int64_t) (1 + next_random(1000));
     }
+    turn_errors();
 }
 
 static void call_judging(void) { kept = mus_split(ledger, lines, 0, marks, lines).refusal; }
@@ -148,6 +161,7 @@ static void set_split_3(void) { ledger_of_rounds(3); }
 static void set_split_10(void) { ledger_of_rounds(10); }
 static void set_no_errors(void) { plain_ledger(); find_errors(0); }
 static void set_project(void) { plain_ledger(); find_errors(20); }
+static void set_project_both(void) { plain_ledger(); find_errors(MOST); turn_errors(); }
 static void set_project_wide(void) { wide_ledger(); find_errors(20); }
 static void set_most_errors(void) { plain_ledger(); find_errors(MUS_MOST_ERRORS); }
 static void set_read(void) { longest_content(); call_write(); }
@@ -178,6 +192,7 @@ static const struct row {
     {"draw-deep", set_deep, call_draw},
     {"project", set_project, call_project},
     {"project-deep", set_deep, call_project},
+    {"project-both", set_project_both, call_project},
     {"project-wide", set_project_wide, call_project},
     {"project-widest", widest_ledger, call_project},
     {"lines", set_project, call_lines},

@@ -1,16 +1,17 @@
 // Every operation, called: its answer in the one shape that the test programs print.
 use answers::Answer;
+use answers::Rest;
 use results::ProjectResult;
 use results::SplitResult;
 
-// An answer without a verdict.
+// An answer of figures alone.
 fn answer(refusal: u64, place: u64, figures: [u64; 5], count: usize) -> Answer {
     Answer {
         refusal,
         place,
         figures,
         count,
-        verdict: 0,
+        rest: Rest::Nothing,
     }
 }
 
@@ -51,10 +52,16 @@ pub fn draw(ledger: &[u64], n: u64, start: u64, marks: &mut [u8]) -> Answer {
 }
 
 fn of_project(r: ProjectResult) -> Answer {
-    answer(r.refusal, r.place, [r.full, r.sampled, r.m, 0, 0], 3)
+    Answer {
+        refusal: r.refusal,
+        place: r.place,
+        figures: [r.full, r.sampled, r.m, r.under_full, r.under_sampled],
+        count: 5,
+        rest: Rest::Net(r.net),
+    }
 }
 
-pub fn project(ledger: &[u64], n: u64, start: u64, errors: &[u64]) -> Answer {
+pub fn project(ledger: &[u64], n: u64, start: u64, errors: &[i64]) -> Answer {
     of_project(results::steps::of_project(project::project(ledger, n, start, errors)))
 }
 
@@ -62,25 +69,24 @@ pub fn project_lines(
     ledger: &[u64],
     n: u64,
     start: u64,
-    errors: &[u64],
-    amounts: &mut [u64],
+    errors: &[i64],
+    amounts: &mut [i64],
 ) -> Answer {
     of_project(results::steps::of_project(lines::project_lines(ledger, n, start, errors, amounts)))
 }
 
-pub fn judge(level: u8, ledger: &[u64], n: u64, start: u64, errors: &[u64], te: u64) -> Answer {
+pub fn judge(level: u8, ledger: &[u64], n: u64, start: u64, errors: &[i64], te: u64) -> Answer {
     let r = results::steps::of_judge(judge::judge(level, ledger, n, start, errors, te));
-    let figures = [r.full, r.sampled, r.m, r.precision, r.upper_limit];
     Answer {
         refusal: r.refusal,
         place: r.place,
-        figures,
+        figures: [r.full, r.sampled, r.m, r.under_full, r.under_sampled],
         count: 5,
-        verdict: r.verdict,
+        rest: Rest::Judged(r.net, r.precision, r.upper_limit, r.verdict),
     }
 }
 
-pub fn read(file: &[u8], words: &mut [u64], values: &mut [u64], errors: &mut [u64]) -> Answer {
+pub fn read(file: &[u8], words: &mut [u64], values: &mut [u64], errors: &mut [i64]) -> Answer {
     let r = results::file::of_read(reader::read(file, words, values, errors));
     let figures = [r.level, r.te, r.ae, r.words, r.lines];
     answer(r.refusal, r.place, figures, 5)
@@ -92,7 +98,7 @@ pub fn write(
     ae: u64,
     words: &[u64],
     values: &[u64],
-    errors: &[u64],
+    errors: &[i64],
     file: &mut [u8],
 ) -> Answer {
     let r = results::file::of_write(writer::write(level, te, ae, words, values, errors, file));

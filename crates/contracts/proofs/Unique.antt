@@ -2,6 +2,7 @@
 use Prim.Native.Nat.{ℕ}
 use mathlib.Core.Path.{_≡_, refl, sym, ap, _∙_}
 use mathlib.Core.List.{List}
+use lib.IntN.{ℤ}
 use Rattle.terms.specs.Outcome.{Outcome}
 use Rattle.terms.proofs.Answers.{Made, good, bad, one-answer}
 use Rattle.factors.specs.declared.LevelAnswer.{LevelAnswer}
@@ -99,22 +100,22 @@ draw-once : (ledger : List ℕ) (n start : ℕ) (marks : List ℕ) → OneWith (
 draw-once _ _ _ _ r s _ _ p q =
     (one-answer drawSays draw.Drawn draw.Refused (λ a. refl) (λ why. refl) draw-made r s (p .answer) (q .answer), p .marks-left ∙ sym (q .marks-left))
 
-project-once : (ledger : List ℕ) (n start : ℕ) (errors : List ℕ) → One (ProjectPromise ledger n start errors)
+project-once : (ledger : List ℕ) (n start : ℕ) (errors : List ℤ) → One (ProjectPromise ledger n start errors)
 project-once _ _ _ _ r s p q = project-answer r s (p .answer) (q .answer)
 
-lines-once : (ledger : List ℕ) (n start : ℕ) (errors amounts : List ℕ) → OneWith (LinesPromise ledger n start errors amounts)
+lines-once : (ledger : List ℕ) (n start : ℕ) (errors amounts : List ℤ) → OneWith (LinesPromise ledger n start errors amounts)
 lines-once _ _ _ _ _ r s _ _ p q = (project-answer r s (p .answer) (q .answer), p .amounts-left ∙ sym (q .amounts-left))
 
-judge-once : (percent : ℕ) (ledger : List ℕ) (n start : ℕ) (errors : List ℕ) (te : ℕ) → One (JudgePromise percent ledger n start errors te)
+judge-once : (percent : ℕ) (ledger : List ℕ) (n start : ℕ) (errors : List ℤ) (te : ℕ) → One (JudgePromise percent ledger n start errors te)
 judge-once _ _ _ _ _ _ r s p q = one-answer judgeSays judge.Judged judge.Refused (λ a. refl) (λ why. refl) judge-made r s (p .answer) (q .answer)
 
-reads-once : (file words values errors : List ℕ) → OneWith (λ r (b : Three). ReadPromise file words values errors r (b .0) (b .1) (b .2))
+reads-once : (file words values : List ℕ) (errors : List ℤ) → OneWith (λ r (b : Three). ReadPromise file words values errors r (b .0) (b .1) (b .2))
 reads-once _ _ _ _ _ _ _ _ p q = let same = read-once p q in (same .0, λ i. (same .1 i, same .2 i, same .3 i))
 
-writes-once : (plan : Plan) (words values errors file : List ℕ) → OneWith (WritePromise plan words values errors file)
+writes-once : (plan : Plan) (words values : List ℕ) (errors : List ℤ) (file : List ℕ) → OneWith (WritePromise plan words values errors file)
 writes-once _ _ _ _ _ _ _ _ _ p q = write-once p q
 
-written-then-read-once : (plan : Plan) (words values errors file words-before values-before errors-before : List ℕ)
+written-then-read-once : (plan : Plan) (words values : List ℕ) (errors : List ℤ) (file words-before values-before : List ℕ) (errors-before : List ℤ)
     → OneWith (λ r (b : List ℕ × Three). WriteThenRead plan words values errors file words-before values-before errors-before r (b .0) (b .1 .0) (b .1 .1) (b .1 .2))
 written-then-read-once _ _ _ _ _ _ _ _ _ _ _ _ p q = let same = write-read-once p q in (same .0, λ i. (same .1 i, (same .2 i, same .3 i, same .4 i)))
 

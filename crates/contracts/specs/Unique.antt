@@ -3,6 +3,7 @@
 use Prim.Native.Nat.{ℕ}
 use mathlib.Core.Path.{_≡_}
 use mathlib.Core.List.{List}
+use lib.IntN.{ℤ}
 use Rattle.terms.specs.declared.Refusal.{Refusal}
 use Rattle.terms.specs.Refusals.{tells}
 use Rattle.factors.specs.Levels.{LevelPromise}
@@ -36,7 +37,7 @@ OneWith {R} {B} Meets = (r s : R) (b c : B) → Meets r b → Meets s c → (r �
 
 -- words, values and errors
 abbrev pub Three : Type 0
-Three = List ℕ × List ℕ × List ℕ
+Three = List ℕ × List ℕ × List ℤ
 
 -- for every input of every public operation
 pub record NoFreedom : Type 0 where
@@ -49,32 +50,32 @@ pub record NoFreedom : Type 0 where
   pub figures-for : (ledger : List ℕ) (n start beside : ℕ) → One (FiguresForPromise ledger n start beside)
   pub start : (J : ℕ) (words : List ℕ) → One (StartPromise J words)
   pub draw : (ledger : List ℕ) (n start : ℕ) (marks : List ℕ) → OneWith (DrawPromise ledger n start marks)
-  pub project : (ledger : List ℕ) (n start : ℕ) (errors : List ℕ) → One (ProjectPromise ledger n start errors)
-  pub project-lines : (ledger : List ℕ) (n start : ℕ) (errors amounts : List ℕ) → OneWith (LinesPromise ledger n start errors amounts)
-  pub judge : (percent : ℕ) (ledger : List ℕ) (n start : ℕ) (errors : List ℕ) (te : ℕ) → One (JudgePromise percent ledger n start errors te)
-  pub steps : (plan : Plan) (words ledger errors : List ℕ) → One (StepsPromise plan words ledger errors)
+  pub project : (ledger : List ℕ) (n start : ℕ) (errors : List ℤ) → One (ProjectPromise ledger n start errors)
+  pub project-lines : (ledger : List ℕ) (n start : ℕ) (errors amounts : List ℤ) → OneWith (LinesPromise ledger n start errors amounts)
+  pub judge : (percent : ℕ) (ledger : List ℕ) (n start : ℕ) (errors : List ℤ) (te : ℕ) → One (JudgePromise percent ledger n start errors te)
+  pub steps : (plan : Plan) (words ledger : List ℕ) (errors : List ℤ) → One (StepsPromise plan words ledger errors)
   -- the working file, its sheet, and the text
-  pub read : (file words values errors : List ℕ) → OneWith (λ r (b : Three). ReadPromise file words values errors r (b .0) (b .1) (b .2))
-  pub write : (plan : Plan) (words values errors file : List ℕ) → OneWith (WritePromise plan words values errors file)
-  pub write-then-read : (plan : Plan) (words values errors file words-before values-before errors-before : List ℕ)
+  pub read : (file words values : List ℕ) (errors : List ℤ) → OneWith (λ r (b : Three). ReadPromise file words values errors r (b .0) (b .1) (b .2))
+  pub write : (plan : Plan) (words values : List ℕ) (errors : List ℤ) (file : List ℕ) → OneWith (WritePromise plan words values errors file)
+  pub write-then-read : (plan : Plan) (words values : List ℕ) (errors : List ℤ) (file words-before values-before : List ℕ) (errors-before : List ℤ)
       → OneWith (λ r (b : List ℕ × Three). WriteThenRead plan words values errors file words-before values-before errors-before r (b .0) (b .1 .0) (b .1 .1) (b .1 .2))
   pub read-then-write : (file again : List ℕ) → OneWith (ReadThenWrite file again)
   pub sheet : (file page : List ℕ) → OneWith (Printed (sheetText file) page)
   pub sheet-in : (file page : List ℕ) → OneWith (SheetPromise file page)
-  pub parse : (text words values errors : List ℕ) → OneWith (λ r (b : Three). ParsePromise text words values errors r (b .0) (b .1) (b .2))
+  pub parse : (text words values : List ℕ) (errors : List ℤ) → OneWith (λ r (b : Three). ParsePromise text words values errors r (b .0) (b .1) (b .2))
   pub print-fault : (fault : Fault) (page : List ℕ) → OneWith (Printed (faultText fault) page)
   -- the exports
   pub mus-size : (percent total te ae : ℕ) → One (Sees sizeSeen sizeSays (SizePromise percent total te ae))
   pub mus-split : (ledger : List ℕ) (n : ℕ) (marks : List ℕ) → OneWith (λ r b. Sees splitSeen splitSays (λ a. SplitPromise ledger n marks a b) r)
   pub mus-start : (J : ℕ) (words : List ℕ) → One (Sees startSeen startSays (StartPromise J words))
   pub mus-draw : (ledger : List ℕ) (n start : ℕ) (marks : List ℕ) → OneWith (λ r b. Sees drawSeen drawSays (λ a. DrawPromise ledger n start marks a b) r)
-  pub mus-project : (ledger : List ℕ) (n start : ℕ) (errors : List ℕ) → One (Sees projectSeen projectSays (ProjectPromise ledger n start errors))
-  pub mus-project-lines : (ledger : List ℕ) (n start : ℕ) (errors amounts : List ℕ)
+  pub mus-project : (ledger : List ℕ) (n start : ℕ) (errors : List ℤ) → One (Sees projectSeen projectSays (ProjectPromise ledger n start errors))
+  pub mus-project-lines : (ledger : List ℕ) (n start : ℕ) (errors amounts : List ℤ)
       → OneWith (λ r b. Sees projectSeen projectSays (λ a. LinesPromise ledger n start errors amounts a b) r)
-  pub mus-judge : (percent : ℕ) (ledger : List ℕ) (n start : ℕ) (errors : List ℕ) (te : ℕ)
+  pub mus-judge : (percent : ℕ) (ledger : List ℕ) (n start : ℕ) (errors : List ℤ) (te : ℕ)
       → One (Sees judgeSeen judgeSays (JudgePromise percent ledger n start errors te))
-  pub mus-read : (file words values errors : List ℕ)
+  pub mus-read : (file words values : List ℕ) (errors : List ℤ)
       → OneWith (λ r (b : Three). Sees readSeen readSays (λ a. ReadPromise file words values errors a (b .0) (b .1) (b .2)) r)
-  pub mus-write : (plan : Plan) (words values errors file : List ℕ)
+  pub mus-write : (plan : Plan) (words values : List ℕ) (errors : List ℤ) (file : List ℕ)
       → OneWith (λ r b. Sees writeSeen writeSays (λ a. WritePromise plan words values errors file a b) r)
   pub mus-sheet : (file page : List ℕ) → OneWith (λ r b. Sees sheetSeen sheetSays (λ a. SheetPromise file page a b) r)

@@ -1,4 +1,4 @@
--- Demand 3 at an interval J: the draw and the projection, line by line and over all starts. Assumes nothing.
+-- Demand 3 at an interval J, for any part of the errors: the draw and the projection, line by line and over all starts. Assumes nothing.
 use Prim.Native.Nat.{ℕ, suc, _+_, _*_, _≤_, _<_, min, zero-le}
 use native.Mathlib.Nat.{mul-add, one-mul, zero-mul, mul-zero}
 use native.Mathlib.Omega.{arith}
@@ -7,9 +7,14 @@ use mathlib.Core.Bool.{Bool, true, false}
 use mathlib.Core.List.{List, [], _∷_}
 use borrow.Author.Tests.{ltb-true, ltb-false}
 use lib.Dec.{eqb}
+use lib.IntN.{ℤ, pos}
 use lib.ListN.{length, getD, drop}
 use Rattle.terms.specs.Numbers.{pick}
 use Rattle.terms.specs.Outcome.{accepted}
+use Rattle.signed.specs.declared.Part.{Part}
+use Rattle.signed.specs.Parts.{partOf, parts}
+use Rattle.signed.proofs.Laws.{part-none, parts-at, parts-drop}
+use Rattle.signed.proofs.Lists.{parts-nil, parts-cons}
 use Rattle.draw.specs.Points.{covers}
 use Rattle.draw.specs.Row.{full, cents, rowCents, firstCent, markBy, marksFrom, drawMarks}
 use Rattle.draw.proofs.Laws.{row-nil, row-more, marks-more, marks-length, mark-at}
@@ -25,7 +30,7 @@ use Rattle.demands.proofs.Sums.{sum-cong, sum-add, sum-const, sum-times
 
 -- One line, by whether it is full and whether it covers a point: what is entered of its error, and what it gives.
 abbrev kept : Bool → Bool → ℕ → ℕ
-kept f c e = enteredOf (markBy f c) e
+kept f c e = enteredOf 0 (markBy f c) e
 
 sampled-line : (f c : Bool) (g : ℕ → ℕ) (e : ℕ) → sampledPart (stateBy f c (g (kept f c e))) (kept f c e) ≡ pick f 0 (oneIf c * g e)
 sampled-line true c g e = refl
@@ -57,13 +62,13 @@ module _ (J : ℕ) (some : 0 < J) where
 
 -- The lines at a start, where the errors of drawn and full lines are entered.
 abbrev pub enteredLines : ℕ → ℕ → ℕ → List ℕ → List ℕ → List Line
-enteredLines J s o vs es = linesFrom J s o vs (entered (marksFrom J s o vs) es)
+enteredLines J s o vs es = linesFrom J s o vs (entered 0 (marksFrom J s o vs) es)
 
 module _ (J s o : ℕ) where
   entered-more : (v : ℕ) (vs es : List ℕ) →
       enteredLines J s o (v ∷ vs) es ≡ lineFrom J s o v (kept (full J v) (covers J s o v) (getD es 0 0)) ∷ enteredLines J s (o + cents J v) vs (drop 1 es)
   unfolding entered
-  entered-more v vs es = ap (λ (marks : List ℕ). linesFrom J s o (v ∷ vs) (entered marks es)) (marks-more J s o v vs) ∙ lines-more J s o v vs _
+  entered-more v vs es = ap (λ (marks : List ℕ). linesFrom J s o (v ∷ vs) (entered 0 marks es)) (marks-more J s o v vs) ∙ lines-more J s o v vs _
 
   total-entered : (part : State → ℕ → ℕ) (v : ℕ) (vs es : List ℕ) → let e : ℕ = kept (full J v) (covers J s o v) (getD es 0 0) in
       total part (enteredLines J s o (v ∷ vs) es)
@@ -154,10 +159,22 @@ entered-clean J s o item (v ∷ vs) es h =
     subst (λ (ls : List Line). checkedFrom item ls ≡ accepted ls) (sym (entered-more J s o v vs es))
     (checked-before item _ _ (q .0) (q .1) (entered-clean J s (o + cents J v) (suc item) vs (drop 1 es) (within-later v vs es h)))
 
-as-marks : (marks es : List ℕ) → length (entered marks es) ≡ length marks
+-- There is an entry for each line, and what is entered of a part is that part of what is entered.
+as-marks : {A : Type 0} (none : A) (marks : List ℕ) (es : List A) → length (entered none marks es) ≡ length marks
 unfolding entered
-as-marks [] es = refl
-as-marks (mark ∷ later) es = ap suc (as-marks later (drop 1 es))
+as-marks none [] es = refl
+as-marks none (mark ∷ later) es = ap suc (as-marks none later (drop 1 es))
 
-pub entered-length : (J s o : ℕ) (vs es : List ℕ) → length (entered (marksFrom J s o vs) es) ≡ length vs
-entered-length J s o vs es = as-marks (marksFrom J s o vs) es ∙ marks-length J s o vs
+pub entered-length : {A : Type 0} (none : A) (J s o : ℕ) (vs : List ℕ) (es : List A) → length (entered none (marksFrom J s o vs) es) ≡ length vs
+entered-length none J s o vs es = as-marks none (marksFrom J s o vs) es ∙ marks-length J s o vs
+
+part-entered : (p : Part) (b : Bool) (e : ℤ) → partOf p (pick b (pos 0) e) ≡ pick b 0 (partOf p e)
+part-entered p true e = part-none p
+part-entered p false e = refl
+
+pub entered-part : (p : Part) (marks : List ℕ) (es : List ℤ) → parts p (entered (pos 0) marks es) ≡ entered 0 marks (parts p es)
+unfolding entered
+entered-part p [] es = parts-nil p
+entered-part p (mark ∷ later) es =
+    parts-cons p _ _
+    ∙ cc (part-entered p (eqb mark 0) (getD es 0 (pos 0)), parts-at p es 0, entered-part p later (drop 1 es), parts-drop p 1 es)

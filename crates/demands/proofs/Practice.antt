@@ -12,6 +12,8 @@ use Rattle.draw.specs.Points.{points, covers}
 use Rattle.draw.specs.Row.{marksFrom, drawMarks, ones}
 use Rattle.split.specs.Start.{figuresFor}
 use Rattle.draw.specs.Draw.{drawOf}
+use Rattle.signed.specs.Errors as signed
+use Rattle.signed.specs.Parts.{partOf, parts}
 use Rattle.project.specs.Lines.{amount, linesFrom, linesOf, total, amountsOf}
 use Rattle.project.specs.Project.{checkedLine, checkedFrom, checkedLines, projectionAt, projectOf}
 use Rattle.sorting.specs.Sorting.{sortDown}
@@ -21,5 +23,5 @@ use Rattle.demands.specs.Starts.{sumBelow, entered}
 use Rattle.demands.specs.Practice.{withMark, found, practice, AllFound}
 
 pub all-found : AllFound practice
-unfolding practice found withMark sizeOf sizeAt levelOf rf table divUp splitOf figuresFrom ledger.ledgerOf ledger.runningTotal ledger.runningFrom rounds intervals fullMarks sumBelow entered drawOf figuresFor drawMarks marksFrom ones covers points projectOf projectionAt checkedLines checkedFrom checkedLine linesOf linesFrom total amountsOf amount judgeOf judgedLedger judgedFigures judgedAt judgedLines judgedWith concluded verdictOf precisionOf hundredths roundUp sortDown stepOf
+unfolding practice found withMark sizeOf sizeAt levelOf rf table divUp splitOf figuresFrom ledger.ledgerOf ledger.runningTotal ledger.runningFrom rounds intervals fullMarks sumBelow entered drawOf figuresFor drawMarks marksFrom ones covers points projectOf projectionAt checkedLines checkedFrom checkedLine linesOf linesFrom total amountsOf amount judgeOf judgedLedger judgedFigures judgedAt judgedLines judgedWith concluded verdictOf precisionOf hundredths roundUp sortDown stepOf parts partOf signed.overstated signed.understated signed.sizeOf
 all-found = refl

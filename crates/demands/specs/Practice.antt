@@ -1,8 +1,10 @@
 -- The practice sheet's cases marked *, in one list: what is asked, what the sheet says, what the definitions find. Definitions: nothing is assumed.
 use Prim.Native.Nat.{ℕ, suc, _+_, _*_}
 use mathlib.Core.Path.{_≡_}
+use mathlib.Core.Bool.{false}
 use mathlib.Core.List.{List, [], _∷_, map}
 use lib.Dec.{eqb}
+use lib.IntN.{pos}
 use lib.ListN.{length, getD}
 use Rattle.terms.specs.Outcome.{Outcome, accepted, refused, after}
 use Rattle.terms.specs.Numbers.{pick, sum}
@@ -17,7 +19,7 @@ use Rattle.judge.specs.Judge.{judgeOf}
 use Rattle.demands.specs.Starts.{sumBelow, oneIf}
 use Rattle.demands.specs.Demand3.{marksFor, projectedFor, sampledIn, fullIn}
 
--- what a case asks for
+-- what a case asks for; the errors of the sheet are overstatements
 pub data Question : Type 0 where
   -- how many draws, for a level, a total, TE and AE
   draws : ℕ → ℕ → ℕ → ℕ → Question
@@ -69,13 +71,13 @@ found (drawnLines ledger n start) = numbers (λ lines. withMark 1 0 (marksFor le
 found (startsThatDraw ledger n line) =
     numbers (λ figures. figures .interval ∷ sumBelow (figures .interval) (λ start. oneIf (eqb (getD (marksFor ledger n start) line 0) 1)) ∷ [])
     (splitOf ledger n (length ledger))
-found (projected ledger n start errors) = numbers (λ projection. (projection .full + projection .sampled) ∷ []) (projectOf ledger n start errors)
+found (projected ledger n start errors) = numbers (λ projection. (projection .full + projection .sampled) ∷ []) (projectOf ledger n start (map pos errors))
 found (overAllStarts ledger n errors) =
-    numbers (λ figures. sumBelow (figures .interval) (λ start. fullIn (projectedFor ledger n errors start) + sampledIn (projectedFor ledger n errors start)) ∷ (figures .interval * sum errors) ∷ [])
+    numbers (λ figures. sumBelow (figures .interval) (λ start. fullIn false (projectedFor ledger n (map pos errors) start) + sampledIn false (projectedFor ledger n (map pos errors) start)) ∷ (figures .interval * sum errors) ∷ [])
     (splitOf ledger n (length ledger))
 found (limits level ledger n start errors te) =
-    numbers (λ judgement. (judgement .projection .full + judgement .projection .sampled) ∷ judgement .precision ∷ judgement .«upper_limit» ∷ []) (judgeOf level ledger n start errors te)
-found (verdictOn level ledger n start errors te) = after (λ judgement. accepted (this (judgement .verdict))) (judgeOf level ledger n start errors te)
+    numbers (λ judgement. (judgement .projection .full + judgement .projection .sampled) ∷ judgement .precision ∷ judgement .«upper_limit» ∷ []) (judgeOf level ledger n start (map pos errors) te)
+found (verdictOn level ledger n start errors te) = after (λ judgement. accepted (this (judgement .verdict))) (judgeOf level ledger n start (map pos errors) te)
 
 abbrev grants : List ℕ
 grants = 500 ∷ 120 ∷ 0 ∷ 80 ∷ 300 ∷ []

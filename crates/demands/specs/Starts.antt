@@ -1,4 +1,5 @@
--- Sums over all starts, the errors entered at a start, and the true errors of sampled and of full lines. Definitions: nothing is assumed.
+-- Sums over all starts, the errors entered at a start, and the true errors of sampled and of full lines, one part by itself. Definitions: nothing is
+-- assumed.
 use Prim.Native.Nat.{ℕ, zero, suc, _+_, _≤_}
 use mathlib.Core.Bool.{Bool}
 use mathlib.Core.List.{List, [], _∷_}
@@ -16,20 +17,20 @@ sumBelow (suc n) f = sumBelow n f + f n
 abbrev pub oneIf : Bool → ℕ
 oneIf test = pick test 1 0
 
--- every true error is between nothing and the line's book value
+-- no true error, by its size or by a part of it, is above the line's book value
 unfoldable pub Within : List ℕ → List ℕ → Type 0
 Within ledger errors = (item : ℕ) → getD errors item 0 ≤ getD ledger item 0
 
--- what is entered of an error: the error of a drawn or full line, and 0 for the others
-abbrev pub enteredOf : ℕ → ℕ → ℕ
-enteredOf mark error = pick (eqb mark 0) 0 error
+-- what is entered of an error, or of a part of it: that of a drawn or full line, and none for the others
+abbrev pub enteredOf : {A : Type 0} → A → ℕ → A → A
+enteredOf none mark error = pick (eqb mark 0) none error
 
 -- the errors that are entered where the draw leaves these marks
-unfoldable pub entered : List ℕ → List ℕ → List ℕ
-entered [] errors = []
-entered (mark ∷ later) errors = enteredOf mark (getD errors 0 0) ∷ entered later (drop 1 errors)
+unfoldable pub entered : {A : Type 0} → A → List ℕ → List A → List A
+entered none [] errors = []
+entered none (mark ∷ later) errors = enteredOf none mark (getD errors 0 none) ∷ entered none later (drop 1 errors)
 
--- the true error of the sampled lines, and of the full ones
+-- the true error of the sampled lines, and of the full ones, in one part of the errors
 unfoldable pub sampledError : ℕ → List ℕ → List ℕ → ℕ
 sampledError J [] errors = 0
 sampledError J (value ∷ later) errors = pick (full J value) 0 (getD errors 0 0) + sampledError J later (drop 1 errors)

@@ -89,14 +89,14 @@ module _ {line : List ℕ} {from count at left : ℕ} {numbers : Numbers} (so : 
       e ∙ sym (ap (λ (n : ℕ). numbersFrom n numbers (fieldsAt line at)) none) ∙ so .same
 
 -- a byte that is no kind
-module _ {kind : ℕ} (not-plan : kind ≡ 0x50 → ⊥) (not-word : kind ≡ 0x57 → ⊥) (not-value : kind ≡ 0x4C → ⊥) (not-error : kind ≡ 0x45 → ⊥) where
+module _ {kind : ℕ} (not-plan : kind ≡ 0x50 → ⊥) (not-word : kind ≡ 0x57 → ⊥) (not-value : kind ≡ 0x4C → ⊥) (not-error : kind ≡ 0x45 → ⊥) (not-under : kind ≡ 0x55 → ⊥) where
   pub none-counted : 0 ≡ countOf kind
   unfolding countOf
-  none-counted = sym (simp (ne-eqb _ _ not-plan, ne-eqb _ _ not-word, ne-eqb _ _ not-value, ne-eqb _ _ not-error))
+  none-counted = sym (simp (ne-eqb _ _ not-plan, ne-eqb _ _ not-word, ne-eqb _ _ not-value, ne-eqb _ _ not-error, ne-eqb _ _ not-under))
 
   pub none-made : (numbers : Numbers) → Unreadable UnknownKind ≡ madeOf kind numbers
   unfolding madeOf
-  none-made numbers = sym (simp (ne-eqb _ _ not-plan, ne-eqb _ _ not-word, ne-eqb _ _ not-value, ne-eqb _ _ not-error))
+  none-made numbers = sym (simp (ne-eqb _ _ not-plan, ne-eqb _ _ not-word, ne-eqb _ _ not-value, ne-eqb _ _ not-error, ne-eqb _ _ not-under))
 
 -- a record by its kind and its numbers
 module _ (kind : ℕ) {count : ℕ} (many : count ≡ countOf kind) (fields : List (List ℕ)) where

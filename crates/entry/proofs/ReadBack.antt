@@ -1,6 +1,6 @@
 -- A number that the pen writes in decimal is read as that number, and a line of a kind and such numbers as its record. Assumes nothing.
 use mathlib.Core.Path.{_≡_, refl, sym, ap, _∙_}
-use mathlib.Core.Bool.{false}
+use mathlib.Core.Bool.{Bool, true, false}
 use mathlib.Core.Logic.{⊎-elim}
 use mathlib.Core.List.{List, [], _∷_, _++_, append-assoc, append-nil}
 use Prim.Native.Nat.{ℕ, zero, suc, _+_, _*_, _-_, _/_, _%_, _^_, _≤_, _<_}
@@ -10,6 +10,7 @@ use lib.ListN.{length, length-append}
 use Rattle.pen.specs.Text.{digit, decimal}
 use Rattle.pen.proofs.Decimals.{decimal-small, decimal-more}
 use Rattle.terms.proofs.Tests.{le-or-lt}
+use Rattle.workfile.specs.Content.{errorKind}
 use Rattle.workfile.specs.declared.FileRecord.the-variants.{Word, Value, ErrorOf}
 use Rattle.entry.specs.Text.{blank, opens, onto, fieldsOf}
 use Rattle.entry.specs.Records.{numberFrom, numberOf, numbersFrom, countOf, madeOf, withNumbers, recordWith, recordBy, recordIn}
@@ -119,11 +120,15 @@ value-read-back value h =
     ap recordBy (field-first (0x4C ∷ []) (decimal value) (omega arith, (refl, tt)) ∙ ap (λ (l : List (List ℕ)). (0x4C ∷ []) ∷ l) (one-field value))
     ∙ simp (number-read-back value h)
 
-pub error-read-back : (line error : ℕ) → line < 2 ^ 64 → error < 2 ^ 64 → recordIn (0x45 ∷ 32 ∷ (decimal line ++ (32 ∷ decimal error))) ≡ Filed (ErrorOf line error)
+error-fields : (kind line size : ℕ) → blank kind ≡ false → fieldsOf (kind ∷ 32 ∷ (decimal line ++ (32 ∷ decimal size))) ≡ (kind ∷ []) ∷ decimal line ∷ decimal size ∷ []
+error-fields kind line size solid =
+    field-first (kind ∷ []) (decimal line ++ (32 ∷ decimal size)) (omega arith, (solid, tt)) ∙ ap (λ (l : List (List ℕ)). (kind ∷ []) ∷ l) (two-fields line size)
+
+-- E and U
+pub error-read-back : (u : Bool) (line size : ℕ) → line < 2 ^ 64 → size < 2 ^ 64 → recordIn (errorKind u ∷ 32 ∷ (decimal line ++ (32 ∷ decimal size))) ≡ Filed (ErrorOf u line size)
 unfolding recordIn recordBy recordWith countOf madeOf withNumbers numbersFrom blank
-error-read-back line error h g =
-    ap recordBy (field-first (0x45 ∷ []) (decimal line ++ (32 ∷ decimal error)) (omega arith, (refl, tt)) ∙ ap (λ (l : List (List ℕ)). (0x45 ∷ []) ∷ l) (two-fields line error))
-    ∙ simp (number-read-back line h, number-read-back error g)
+error-read-back false line size h g = ap recordBy (error-fields 0x45 line size refl) ∙ simp (number-read-back line h, number-read-back size g)
+error-read-back true line size h g = ap recordBy (error-fields 0x55 line size refl) ∙ simp (number-read-back line h, number-read-back size g)
 
 pub plan-read-back : (level te ae : ℕ) → level < 2 ^ 64 → te < 2 ^ 64 → ae < 2 ^ 64
     → recordIn (0x50 ∷ 32 ∷ (decimal level ++ (32 ∷ (decimal te ++ (32 ∷ decimal ae))))) ≡ Plan level te ae

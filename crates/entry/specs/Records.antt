@@ -1,5 +1,6 @@
 -- The record that the fields of a line write: a kind, and as many numbers as the kind has. Definitions: nothing is assumed.
 use Prim.Native.Nat.{ℕ, zero, suc, _+_, _*_, _-_, _^_}
+use mathlib.Core.Bool.{true, false}
 use mathlib.Core.List.{List, [], _∷_}
 use lib.Dec.{eqb, ltb}
 use lib.ListN.{length, getD}
@@ -48,18 +49,19 @@ unfolding numberOf numberFrom
 numbersFrom zero numbers fields = ended fields numbers
 numbersFrom (suc left) numbers fields = next fields (λ value after. numbersFrom left (oneMore numbers value) after)
 
--- how many numbers a kind has: P 3, W and L 1, E 2; a byte that is no kind has none
+-- how many numbers a kind has: P 3, W and L 1, E and U 2; a byte that is no kind has none
 unfoldable pub countOf : ℕ → ℕ
-countOf kind = pick (eqb kind 0x50) 3 (pick (eqb kind 0x57) 1 (pick (eqb kind 0x4C) 1 (pick (eqb kind 0x45) 2 0)))
+countOf kind = pick (eqb kind 0x50) 3 (pick (eqb kind 0x57) 1 (pick (eqb kind 0x4C) 1 (pick (eqb kind 0x45) 2 (pick (eqb kind 0x55) 2 0))))
 
--- P level TE AE; W word; L value; E line error
+-- P level TE AE; W word; L value; E line size; U line size
 unfoldable pub madeOf : ℕ → Numbers → Record
 madeOf kind numbers =
     pick (eqb kind 0x50) (Record.Plan (numbers .first) (numbers .second) (numbers .third))
     (pick (eqb kind 0x57) (Record.Filed (FileRecord.Word (numbers .third)))
     (pick (eqb kind 0x4C) (Record.Filed (FileRecord.Value (numbers .third)))
-    (pick (eqb kind 0x45) (Record.Filed (FileRecord.ErrorOf (numbers .second) (numbers .third)))
-    (Record.Unreadable Wrong.UnknownKind))))
+    (pick (eqb kind 0x45) (Record.Filed (FileRecord.ErrorOf false (numbers .second) (numbers .third)))
+    (pick (eqb kind 0x55) (Record.Filed (FileRecord.ErrorOf true (numbers .second) (numbers .third)))
+    (Record.Unreadable Wrong.UnknownKind)))))
 
 unfoldable pub withNumbers : ℕ → NumbersAnswer → Record
 unfolding madeOf

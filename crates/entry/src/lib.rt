@@ -22,6 +22,7 @@ pub enum Wrong {
     UnknownLine,
     LineNotRising,
     ErrorZero,
+    ErrorTooLarge,
     NoRoom,
 }
 

@@ -22,6 +22,7 @@ fn count_of(kind: u8) -> usize
         0x57 => 1,
         0x4C => 1,
         0x45 => 2,
+        0x55 => 2,
         _ => 0,
     }
 }
@@ -34,7 +35,8 @@ fn made(kind: u8, numbers: Numbers) -> Record
         0x50 => Record::Plan(numbers.first, numbers.second, numbers.third),
         0x57 => Record::Filed(FileRecord::Word(numbers.third)),
         0x4C => Record::Filed(FileRecord::Value(numbers.third)),
-        0x45 => Record::Filed(FileRecord::ErrorOf(numbers.second as usize, numbers.third)),
+        0x45 => Record::Filed(FileRecord::ErrorOf(false, numbers.second as usize, numbers.third)),
+        0x55 => Record::Filed(FileRecord::ErrorOf(true, numbers.second as usize, numbers.third)),
         _ => Record::Unreadable(Wrong::UnknownKind),
     }
 }

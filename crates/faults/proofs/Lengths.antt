@@ -7,7 +7,7 @@ use Rattle.pen.specs.Letters.{letters}
 use Rattle.pen.specs.Text.{decimal}
 use Rattle.pen.proofs.Lengths.{decimal-short}
 use Rattle.entry.specs.declared.Wrong.{Wrong}
-use Rattle.entry.specs.declared.Wrong.the-variants.{UnknownKind, NumberMissing, NotNumber, NumberTooLarge, FieldTooMany, NoPlan, SecondPlan, LevelTooLarge, OutOfOrder, TooManyWords, TooManyLines, TotalTooLarge, UnknownLine, LineNotRising, ErrorZero, NoRoom}
+use Rattle.entry.specs.declared.Wrong.the-variants.{UnknownKind, NumberMissing, NotNumber, NumberTooLarge, FieldTooMany, NoPlan, SecondPlan, LevelTooLarge, OutOfOrder, TooManyWords, TooManyLines, TotalTooLarge, UnknownLine, LineNotRising, ErrorZero, ErrorTooLarge, NoRoom}
 use Rattle.notation.specs.declared.Fault.{Fault}
 use Rattle.faults.specs.Faults.{wrongWords, placeText, faultText}
 
@@ -27,6 +27,7 @@ words-short TotalTooLarge = omega arith
 words-short UnknownLine = omega arith
 words-short LineNotRising = omega arith
 words-short ErrorZero = omega arith
+words-short ErrorTooLarge = omega arith
 words-short NoRoom = omega arith
 
 pub fault-short : (fault : Fault) → fault .line < 2 ^ 64 → length (faultText fault) ≤ 80

@@ -35,7 +35,7 @@ fn write_wrong(pen: Pen, out: &mut [u8], wrong: Wrong) -> Pen
         Wrong::UnknownKind => it.say(
             out,
             Wrong::UnknownKind,
-            b"the line begins with none of P, W, L, E and #",
+            b"the line begins with none of P, W, L, E, U and #",
         ),
         Wrong::NumberMissing => it.say(out, Wrong::NumberMissing, b"a number is missing"),
         Wrong::NotNumber => it.say(out, Wrong::NotNumber, b"a number has decimal digits only"),
@@ -47,14 +47,15 @@ fn write_wrong(pen: Pen, out: &mut [u8], wrong: Wrong) -> Pen
         Wrong::OutOfOrder => it.say(
             out,
             Wrong::OutOfOrder,
-            b"records come in the order P, W, L, E",
+            b"records come in the order P, W, L, then E and U",
         ),
         Wrong::TooManyWords => it.say(out, Wrong::TooManyWords, b"more than 64 words"),
         Wrong::TooManyLines => it.say(out, Wrong::TooManyLines, b"more than 2048 lines"),
         Wrong::TotalTooLarge => it.say(out, Wrong::TotalTooLarge, b"the sum of L passes 64 bits"),
-        Wrong::UnknownLine => it.say(out, Wrong::UnknownLine, b"E names a line that no L has"),
-        Wrong::LineNotRising => it.say(out, Wrong::LineNotRising, b"the lines of E have to rise"),
-        Wrong::ErrorZero => it.say(out, Wrong::ErrorZero, b"an error has to be above 0"),
+        Wrong::UnknownLine => it.say(out, Wrong::UnknownLine, b"E or U names a line no L has"),
+        Wrong::LineNotRising => it.say(out, Wrong::LineNotRising, b"lines of E and U have to rise"),
+        Wrong::ErrorZero => it.say(out, Wrong::ErrorZero, b"an error has to be above 0 in size"),
+        Wrong::ErrorTooLarge => it.say(out, Wrong::ErrorTooLarge, b"E passes 2^63 - 1, or U 2^63"),
         Wrong::NoRoom => it.say(out, Wrong::NoRoom, b"the buffers are too short"),
     }
 }

@@ -4,6 +4,7 @@ use crate::input::byte_at;
 use crate::input::eight;
 use crate::input::four;
 use crate::lists;
+use crate::signs;
 use parts::part_to_fill;
 
 // The place of the first list.
@@ -29,11 +30,9 @@ pub fn numbers(input: &[u8]) -> Case {
     }
 }
 
-// How many entries the lists of a case have, and where the words begin.
+// How many entries the ledger and the words of a case have.
 pub struct Lists {
     pub ledger: usize,
-    pub errors: usize,
-    pub before: usize,
     pub words: usize,
 }
 
@@ -45,29 +44,16 @@ fn words_at(input: &[u8]) -> usize {
     lists::end(input, errors_at(input))
 }
 
-// The ledger and the errors, one after the other as they stand in the case.
-pub fn lay_ledger(input: &[u8], numbers: &mut [u64]) -> Lists {
-    let ledger = lists::lay(input, LISTS, numbers, 0);
-    let errors = lists::lay(input, errors_at(input), numbers, ledger);
-    let before = ledger + errors;
-    Lists {
-        ledger,
-        errors,
-        before,
-        words: 0,
-    }
+// The ledger at the start of the numbers; the answer is how many lines it has.
+pub fn lay_ledger(input: &[u8], numbers: &mut [u64]) -> usize {
+    lists::lay(input, LISTS, numbers, 0)
 }
 
-// And the words after them.
+// The ledger, and the words after it.
 pub fn lay(input: &[u8], numbers: &mut [u64]) -> Lists {
-    let laid = lay_ledger(input, numbers);
-    let words = lists::lay(input, words_at(input), numbers, laid.before);
-    Lists {
-        ledger: laid.ledger,
-        errors: laid.errors,
-        before: laid.before,
-        words,
-    }
+    let ledger = lay_ledger(input, numbers);
+    let words = lists::lay(input, words_at(input), numbers, ledger);
+    Lists { ledger, words }
 }
 
 // A list in a buffer of its own.
@@ -80,12 +66,20 @@ pub fn ledger<'a>(input: &[u8], numbers: &'a mut [u64]) -> &'a mut [u64] {
     alone(input, LISTS, numbers)
 }
 
-pub fn errors<'a>(input: &[u8], numbers: &'a mut [u64]) -> &'a mut [u64] {
-    alone(input, errors_at(input), numbers)
-}
-
 pub fn words<'a>(input: &[u8], numbers: &'a mut [u64]) -> &'a mut [u64] {
     alone(input, words_at(input), numbers)
+}
+
+// The errors, from their patterns, which are laid first.
+pub fn errors<'a>(input: &[u8], patterns: &mut [u64], errors: &'a mut [i64]) -> &'a mut [i64] {
+    let count = lists::lay(input, errors_at(input), patterns, 0);
+    signs::read(patterns, count, errors)
+}
+
+// The room for amounts, which stands in the place of the words; from patterns too.
+pub fn amounts<'a>(input: &[u8], patterns: &mut [u64], amounts: &'a mut [i64]) -> &'a mut [i64] {
+    let count = lists::lay(input, words_at(input), patterns, 0);
+    signs::read(patterns, count, amounts)
 }
 
 // The file of a read, after the lists; `latest` is the room of bytes that was lent last.

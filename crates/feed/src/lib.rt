@@ -7,3 +7,4 @@ pub mod input; // input.rt: a case's bytes and numbers
 pub mod lines; // lines.rt: the line of a case
 mod lists; // lists.rt: lists of a case
 pub mod rooms; // rooms.rt: lent rooms and digests
+mod signs; // signs.rt: numbers with a sign

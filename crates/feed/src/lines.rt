@@ -1,6 +1,7 @@
 // The line of a case: its number and the operation's name, the answer, the digests of what was lent.
 use crate::rooms::digest_bytes;
 use crate::rooms::digest_numbers;
+use crate::rooms::digest_signed;
 use answers::Answer;
 use pen::Pen;
 
@@ -27,7 +28,7 @@ fn put_name(pen: Pen, page: &mut [u8], operation: u8) -> Pen {
     }
 }
 
-// The digests of what was lent: the room or the file, and each list.
+// The digests of what was lent: the room or the file, and each list; amounts stand in the place of the words.
 struct Digests {
     bytes: u64,
     ledger: u64,
@@ -62,22 +63,38 @@ fn put_case(page: &mut [u8], number: u64, operation: u8, answer: Answer, digests
     put_digests(told, page, operation, digests)
 }
 
+// Writes the line.
+fn write(number: u64, operation: u8, answer: Answer, digests: Digests) {
+    let mut page = [0u8; 256];
+    let told = put_case(&mut page, number, operation, answer, digests);
+    answers::write_line(&mut page, told);
+}
+
 pub fn tell(
     number: u64,
     operation: u8,
     answer: Answer,
     bytes: &[u8],
     ledger: &[u64],
-    errors: &[u64],
+    errors: &[i64],
     words: &[u64],
 ) {
-    let mut page = [0u8; 256];
     let digests = Digests {
         bytes: digest_bytes(bytes),
         ledger: digest_numbers(ledger),
-        errors: digest_numbers(errors),
+        errors: digest_signed(errors),
         words: digest_numbers(words),
     };
-    let told = put_case(&mut page, number, operation, answer, digests);
-    answers::write_line(&mut page, told);
+    write(number, operation, answer, digests);
+}
+
+// The line of a case of the projected lines.
+pub fn tell_lines(number: u64, answer: Answer, ledger: &[u64], errors: &[i64], amounts: &[i64]) {
+    let digests = Digests {
+        bytes: 0,
+        ledger: digest_numbers(ledger),
+        errors: digest_signed(errors),
+        words: digest_signed(amounts),
+    };
+    write(number, 9, answer, digests);
 }

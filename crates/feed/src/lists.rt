@@ -4,12 +4,9 @@ use crate::input::four;
 use crate::input::on;
 use crate::input::two;
 use parts::part_to_fill;
-ghost use Prim.Native.Nat.{_<_};
 
 // The number of entries of a list.
-pub fn count(input: &[u8], at: usize) -> usize
-    ensures { λ r. ⌜ r < 4294967296 ⌝ }
-{
+pub fn count(input: &[u8], at: usize) -> usize {
     four(input, at) as usize
 }
 
@@ -90,9 +87,7 @@ pub fn fill(input: &[u8], at: usize, list: &mut [u64]) {
 }
 
 // The list that stands at a place, laid from a place of the buffer on; the answer is the number of entries.
-pub fn lay(input: &[u8], at: usize, numbers: &mut [u64], from: usize) -> usize
-    ensures { λ r. ⌜ r < 4294967296 ⌝ }
-{
+pub fn lay(input: &[u8], at: usize, numbers: &mut [u64], from: usize) -> usize {
     let entries = count(input, at);
     fill(input, at, part_to_fill(numbers, from, entries));
     entries

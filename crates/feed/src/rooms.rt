@@ -1,4 +1,5 @@
 // What a room of bytes holds before a call, and the digest of what a call leaves.
+use crate::signs::pattern_of;
 use terms::widen;
 
 // The modulus of the digest.
@@ -26,6 +27,17 @@ pub fn digest_numbers(entries: &[u64]) -> u64 {
     let mut i: usize = 0;
     while i < entries.len() {
         digest = digest_more(digest, entries[i]);
+        i += 1;
+    }
+    digest
+}
+
+// Each number with a sign by its pattern.
+pub fn digest_signed(entries: &[i64]) -> u64 {
+    let mut digest: u64 = 1;
+    let mut i: usize = 0;
+    while i < entries.len() {
+        digest = digest_more(digest, pattern_of(entries[i]));
         i += 1;
     }
     digest

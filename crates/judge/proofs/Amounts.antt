@@ -16,12 +16,13 @@ use Rattle.terms.specs.Numbers.{pick}
 use Rattle.terms.specs.Limits.{mostErrors}
 use Rattle.terms.proofs.Tests.{le-or-lt}
 use Rattle.factors.specs.declared.Level.{Level}
+use Rattle.signed.specs.declared.Part.the-variants.{Overstated, Size}
 use Rattle.draw.proofs.Row.{row-sum}
 use Rattle.project.specs.declared.Line.{Line}
 use Rattle.project.specs.declared.Projection.{Projection}
 use Rattle.project.specs.declared.ProjectAnswer.{ProjectAnswer}
-use Rattle.project.specs.Lines.{linesOf, amountsOf}
-use Rattle.project.specs.Project.{projectSays, Ready}
+use Rattle.project.specs.Lines.{amountsOf}
+use Rattle.project.specs.Project.{projectSays, linesWith, Ready}
 use Rattle.project.specs.Gather.{GatherPromise}
 use Rattle.project.proofs.Kept.{kept-amounts}
 use Rattle.project.proofs.Laws.{ProjectedFacts, projected-facts, projection-refused}
@@ -66,30 +67,31 @@ module _ (level : Level) (J te : ℕ) (p : Projection) (own : List ℕ) where
   judged-sorted = ap (λ (z : ℤ). pick (ltb mostErrors (p .m)) (refused 16 0) (accepted (concluded te p (natAbs z)))) (precision-sorted level J own)
 
 -- what is gathered at an interval and a start
-module _ (level : Level) (ledger : List ℕ) (start : ℕ) (errors : List ℕ) (te J : ℕ) (before kept : List ℕ) (a : ProjectAnswer) (gathered : GatherPromise 0 J start ledger errors before a kept) where
+module _ (level : Level) (ledger : List ℕ) (start : ℕ) (errors : List ℤ) (te J : ℕ) (before kept : List ℕ) (a : ProjectAnswer) (gathered : GatherPromise 0 J start ledger errors before a kept) where
   pub lines-refused : (why : Refusal) → a ≡ ProjectAnswer.Refused why → refusedBy why ≡ judgedAt level ledger start errors te J
   unfolding judgedAt
   lines-refused why told =
-      ap (after (judgedLines level te J)) (sym (projection-refused 0 J start ledger errors (sym (ap projectSays told) ∙ gathered .answer)))
+      ap (after (λ lines. judgedLines level te J start ledger errors)) (sym (projection-refused 0 J start ledger errors (sym (ap projectSays told) ∙ gathered .answer)))
 
   module _ (p : Projection) (told : a ≡ ProjectAnswer.Projected p) (ready : Ready 0 J start ledger errors) (room : length before ≡ mostErrors) where
     facts : ProjectedFacts 0 J start ledger errors p
     facts = projected-facts 0 J start ledger errors p (ready .early) (sym (gathered .answer) ∙ ap projectSays told)
 
+    -- the overstatements
     abbrev lines : List Line
-    lines = linesOf J start ledger errors
+    lines = linesWith Overstated J start ledger errors
 
     count : length (amountsOf lines) ≡ p .m
-    count = facts .facts .amounts .count ∙ sym (ap (λ (q : Projection). q .m) (facts .answer))
+    count = facts .facts Overstated .amounts .count ∙ sym (ap (λ (q : Projection). q .m) (facts .answer))
 
     -- the first m that were kept are the amounts, sorted
     front : p .m ≤ mostErrors → take (p .m) kept ≡ sortDown (amountsOf lines)
     front few =
-        (λ i. take (sym count i) (gathered .amounts-left i)) ∙ kept-amounts 0 J start ledger errors before lines (facts .lines) (omega (arith, count))
+        (λ i. take (sym count i) (gathered .amounts-left i)) ∙ kept-amounts 0 J start ledger errors before _ (facts .lines Size) (omega (arith, count))
 
     pub gathered-concludable : Concludable J p kept
     gathered-concludable =
-        let f = facts .facts in
+        let f = facts .facts Overstated in
         record {
           narrow = omega (arith, ready .narrow);
           room = λ few. omega (arith, ap length (front few), length-sort (amountsOf lines), count, length-take (p .m) kept);
@@ -104,4 +106,4 @@ module _ (level : Level) (ledger : List ℕ) (start : ℕ) (errors : List ℕ) (
         ∙ ⊎-elim (λ few. ap (judgedWith level te J p) (front few) ∙ judged-sorted level J te p (amountsOf lines))
         (λ h. sym (too-many level J te p (take (p .m) kept) h) ∙ too-many level J te p (amountsOf lines) h) (le-or-lt (p .m) mostErrors)
         ∙ ap (λ (q : Projection). judgedWith level te J q (amountsOf lines)) (facts .answer)
-        ∙ sym (ap (after (judgedLines level te J)) (facts .lines))
+        ∙ sym (ap (after (λ lines. judgedLines level te J start ledger errors)) (facts .lines Size))

@@ -3,6 +3,7 @@ use mathlib.Core.Path.{_≡_, sym, ap, _∙_}
 use mathlib.Core.List.{List}
 use Prim.Native.Nat.{ℕ, _+_, _≤_, _<_}
 use borrow.Author.Tests.{lt-ltb, le-ltb, eq-eqb, ne-eqb}
+use lib.IntN.{ℤ}
 use lib.ListN.{length}
 use Rattle.terms.specs.declared.Refusal.{Refusal}
 use Rattle.terms.specs.Outcome.{Outcome, accepted, refused, refusedBy, after}
@@ -33,7 +34,7 @@ unfolding concluded
 concludes te p precision limit v l e =
     λ i. record { projection = p; precision = precision; «upper_limit» = l i; verdict = (e ∙ ap (verdictOf te (p .full + p .sampled)) l) i }
 
-module _ (level : Level) (ledger : List ℕ) (n start : ℕ) (errors : List ℕ) (te : ℕ) where
+module _ (level : Level) (ledger : List ℕ) (n start : ℕ) (errors : List ℤ) (te : ℕ) where
   -- the figures for a start, of a ledger with this total
   module _ (total : ℕ) (judged : accepted total ≡ ledgerOf ledger (length errors)) where
     module _ (a : SplitAnswer) (at : splitSays a ≡ figuresAt ledger n start) where
@@ -81,7 +82,7 @@ module _ (level : Level) (ledger : List ℕ) (n start : ℕ) (errors : List ℕ)
         te-within h r e = e ∙ sym (simp (ne-eqb _ _ some, le-ltb _ _ h)) ∙ from-ledger (ap ledgerSays told)
 
 -- 1, or the judgement at the level
-module _ (percent : ℕ) (ledger : List ℕ) (n start : ℕ) (errors : List ℕ) (te : ℕ) (a : LevelAnswer) (at : LevelPromise percent a) where
+module _ (percent : ℕ) (ledger : List ℕ) (n start : ℕ) (errors : List ℤ) (te : ℕ) (a : LevelAnswer) (at : LevelPromise percent a) where
   from-level : {o : Outcome Level} → levelSays a ≡ o → after (judgedLedger ledger n start errors te) o ≡ judgeOf percent ledger n start errors te
   unfolding judgeOf
   from-level e = ap (after (judgedLedger ledger n start errors te)) (sym e ∙ at .answer)

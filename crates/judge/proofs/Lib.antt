@@ -3,4 +3,5 @@ pub mod Amounts
 pub mod Answer
 pub mod Laws
 pub mod Verdicts
+pub mod Alone
 pub mod Worked

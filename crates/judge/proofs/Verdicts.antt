@@ -6,6 +6,7 @@ use Prim.Native.Nat.{ℕ, _+_, _≤_, _<_}
 use native.Mathlib.Omega.{arith}
 use borrow.Author.Tests.{ltb-true, ltb-false}
 use lib.Dec.{ltb}
+use lib.IntN.{ℤ}
 use Rattle.terms.specs.Outcome.{accepted}
 use Rattle.terms.proofs.Tests.{by-test}
 use Rattle.judge.specs.declared.Verdict.{Verdict}
@@ -66,7 +67,7 @@ placed te projected limit ordered =
     }
 
 -- the verdict of every accepted judgement
-pub verdict-placed : (percent : ℕ) (ledger : List ℕ) (n start : ℕ) (errors : List ℕ) (te : ℕ) (j : Judgement) → judgeOf percent ledger n start errors te ≡ accepted j →
+pub verdict-placed : (percent : ℕ) (ledger : List ℕ) (n start : ℕ) (errors : List ℤ) (te : ℕ) (j : Judgement) → judgeOf percent ledger n start errors te ≡ accepted j →
     Placed te (j .projection .full + j .projection .sampled) (j .«upper_limit») (j .verdict)
 verdict-placed percent ledger n start errors te j e =
     let facts = judge-facts percent ledger n start errors te j e in

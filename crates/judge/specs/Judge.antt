@@ -4,6 +4,7 @@ use Prim.Native.Nat.{ℕ, _+_, _*_, _^_, _≤_, _<_}
 use mathlib.Core.Bool.{Bool, true}
 use mathlib.Core.List.{List}
 use lib.Dec.{ltb, eqb}
+use lib.IntN.{ℤ}
 use lib.ListN.{length, take}
 use Rattle.terms.specs.Outcome.{Outcome, accepted, refused, refusedBy, after}
 use Rattle.terms.specs.Numbers.{pick}
@@ -12,9 +13,11 @@ use Rattle.factors.specs.declared.Level.{Level}
 use Rattle.factors.specs.Levels.{levelOf}
 use Rattle.ledger.specs.Ledger.{ledgerOf}
 use Rattle.split.specs.Start.{figuresFor}
-use Rattle.project.specs.declared.{Line.Line, Projection.Projection}
-use Rattle.project.specs.Lines.{projectionOf, amountsOf}
-use Rattle.project.specs.Project.{checkedLines}
+use Rattle.signed.specs.declared.Part.the-variants.{Overstated, Size}
+use Rattle.signed.specs.Parts.{parts}
+use Rattle.project.specs.declared.Projection.{Projection}
+use Rattle.project.specs.Lines.{amountsOf}
+use Rattle.project.specs.Project.{checkedLines, linesWith, bothKinds}
 use Rattle.sorting.specs.Sorting.{Falls}
 use Rattle.precision.specs.Precision.{precisionCents}
 use Rattle.judge.specs.declared.{Verdict.Verdict, Judgement.Judgement, JudgeAnswer.JudgeAnswer}
@@ -33,7 +36,7 @@ underTe te limit = ltb limit te
 unfoldable pub verdictOf : ℕ → ℕ → ℕ → Verdict
 verdictOf te projected limit = pick (ltb te projected) Above (pick (underTe te limit) Below Inconclusive)
 
--- the upper limit is both projected sums and the precision
+-- the projected error is that of the overstatements, and the upper limit that and the precision
 unfoldable pub concluded : ℕ → Projection → ℕ → Judgement
 concluded te projection precision =
     let projected = projection .full + projection .sampled in
@@ -49,16 +52,17 @@ unfoldable pub judgedWith : Level → ℕ → ℕ → Projection → List ℕ �
 judgedWith level te J projection amounts =
     pick (ltb mostErrors (projection .m)) (refused 16 0) (accepted (concluded te projection (precisionCents level J amounts)))
 
-unfoldable pub judgedLines : Level → ℕ → ℕ → List Line → Outcome Judgement
+-- of the lines: only the overstated amounts are weighed
+unfoldable pub judgedLines : Level → ℕ → ℕ → ℕ → List ℕ → List ℤ → Outcome Judgement
 unfolding judgedWith
-judgedLines level te J lines = judgedWith level te J (projectionOf lines) (amountsOf lines)
+judgedLines level te J start ledger errors = judgedWith level te J (bothKinds J start ledger errors) (amountsOf (linesWith Overstated J start ledger errors))
 
--- after 14 and 15, line by line
-unfoldable pub judgedAt : Level → List ℕ → ℕ → List ℕ → ℕ → ℕ → Outcome Judgement
-judgedAt level ledger start errors te J = after (judgedLines level te J) (checkedLines 0 J start ledger errors)
+-- after 14 and 15, line by line, which go by the sizes
+unfoldable pub judgedAt : Level → List ℕ → ℕ → List ℤ → ℕ → ℕ → Outcome Judgement
+judgedAt level ledger start errors te J = after (λ lines. judgedLines level te J start ledger errors) (checkedLines 0 J start ledger (parts Size errors))
 
 -- at the interval of the split's figures, after 8 and 11
-unfoldable pub judgedFigures : Level → List ℕ → ℕ → ℕ → List ℕ → ℕ → Outcome Judgement
+unfoldable pub judgedFigures : Level → List ℕ → ℕ → ℕ → List ℤ → ℕ → Outcome Judgement
 judgedFigures level ledger n start errors te =
     after (λ figures. judgedAt level ledger start errors te (figures .interval)) (figuresFor ledger n start (length errors))
 
@@ -66,22 +70,22 @@ judgedFigures level ledger n start errors te =
 abbrev pub outOfRange : ℕ → ℕ → Bool
 outOfRange te total = pick (eqb te 0) true (ltb total te)
 
-abbrev pub judgedTotal : Level → List ℕ → ℕ → ℕ → List ℕ → ℕ → ℕ → Outcome Judgement
+abbrev pub judgedTotal : Level → List ℕ → ℕ → ℕ → List ℤ → ℕ → ℕ → Outcome Judgement
 judgedTotal level ledger n start errors te total = pick (outOfRange te total) (refused 6 0) (judgedFigures level ledger n start errors te)
 
 -- after the refusals of the ledger
-unfoldable pub judgedLedger : List ℕ → ℕ → ℕ → List ℕ → ℕ → Level → Outcome Judgement
+unfoldable pub judgedLedger : List ℕ → ℕ → ℕ → List ℤ → ℕ → Level → Outcome Judgement
 judgedLedger ledger n start errors te level = after (judgedTotal level ledger n start errors te) (ledgerOf ledger (length errors))
 
 -- 1 comes before them
-unfoldable pub judgeOf : ℕ → List ℕ → ℕ → ℕ → List ℕ → ℕ → Outcome Judgement
+unfoldable pub judgeOf : ℕ → List ℕ → ℕ → ℕ → List ℤ → ℕ → Outcome Judgement
 judgeOf percent ledger n start errors te = after (judgedLedger ledger n start errors te) (levelOf percent)
 
 -- what `judge` promises
-pub record JudgePromise (percent : ℕ) (ledger : List ℕ) (n start : ℕ) (errors : List ℕ) (te : ℕ) (r : JudgeAnswer) : Type 0 where
+pub record JudgePromise (percent : ℕ) (ledger : List ℕ) (n start : ℕ) (errors : List ℤ) (te : ℕ) (r : JudgeAnswer) : Type 0 where
   pub answer : judgeSays r ≡ judgeOf percent ledger n start errors te
 
--- where m is at most 63, the first m of a list are the amounts of the projection, and fall from the interval
+-- where m is at most 63, the first m of a list are the overstated amounts of the projection, and fall from the interval
 pub record Concludable (J : ℕ) (projection : Projection) (amounts : List ℕ) : Type 0 where
   pub narrow : J ≤ mostTotal
   pub room : projection .m ≤ mostErrors → projection .m ≤ length amounts

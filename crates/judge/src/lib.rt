@@ -1,4 +1,4 @@
-// The judgement: upper limit and verdict, steps 6 and 7.
+// The judgement: upper limit and verdict, steps 6 and 7. Both look at overstatements alone.
 use factors::Level;
 use factors::LevelAnswer;
 use ledger::LedgerAnswer;
@@ -48,7 +48,7 @@ fn verdict_of(te: u64, projected: u64, limit: u64) -> Verdict
     Verdict::Inconclusive
 }
 
-// The upper limit is both projected sums and the precision.
+// The upper limit is both sums of the overstatements and the precision.
 fn conclude(te: u64, projection: Projection, precision: u64) -> Judgement
     requires { ⌜ projection .full + projection .sampled + precision < 2 ^ 64 ⌝ }
     ensures { λ r. ⌜ r ≡ concluded te projection precision ⌝ }
@@ -90,7 +90,7 @@ fn judge_lines(
     ledger: &[u64],
     interval: u64,
     start: Cent,
-    errors: &[u64],
+    errors: &[i64],
     te: u64,
 ) -> JudgeAnswer
     requires { ⌜ Ready 0 interval (start .0) (now ledger) (now errors) ⌝ }
@@ -111,7 +111,7 @@ fn judge_total(
     ledger: &[u64],
     n: u64,
     start: Cent,
-    errors: &[u64],
+    errors: &[i64],
     te: u64,
     total: u64,
 ) -> JudgeAnswer
@@ -133,7 +133,7 @@ fn judge_level(
     ledger: &[u64],
     n: u64,
     start: Cent,
-    errors: &[u64],
+    errors: &[i64],
     te: u64,
 ) -> JudgeAnswer
     ensures { λ r. ⌜ judgeSays r ≡ judgedLedger (now (ledger .entry)) n (start .0) (now (errors .entry)) te level ⌝ }
@@ -153,7 +153,7 @@ fn judge_level(
 }
 
 // The judgement: projection, precision, upper limit and verdict.
-pub fn judge(level: u8, ledger: &[u64], n: u64, start: u64, errors: &[u64], te: u64) -> JudgeAnswer
+pub fn judge(level: u8, ledger: &[u64], n: u64, start: u64, errors: &[i64], te: u64) -> JudgeAnswer
     ensures { λ r. ⌜ JudgePromise level (now (ledger .entry)) n start (now (errors .entry)) te r ⌝ }
 {
     match factors::level_of(level) {

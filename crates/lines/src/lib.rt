@@ -1,4 +1,4 @@
-// The projected lines: the projection, and what each line projects.
+// The projected lines: the projection, and what each line projects, with the sign of its error.
 use project::ProjectAnswer;
 use project::State;
 use split::SplitAnswer;
@@ -9,10 +9,11 @@ ghost use mathlib.Core.Path.{_≡_};
 ghost use Prim.Native.Nat.{_≤_};
 ghost use lib.ListN.{length};
 ghost use Rattle.terms.specs.Limits.{mostInterval};
-ghost use Rattle.project.specs.Lines.{linesOf};
-ghost use Rattle.project.specs.Project.{Ready};
+ghost use Rattle.signed.specs.declared.Part.the-variants.{Size};
+ghost use Rattle.signed.specs.Errors.{sizeOf};
+ghost use Rattle.project.specs.Project.{linesWith, Ready};
 ghost use Rattle.project.specs.Gather.{lineAt};
-ghost use Rattle.lines.specs.Each.{projects, eachProjects, lengthBeside, Writable, AtPromise, LinesPromise};
+ghost use Rattle.lines.specs.Each.{projects, amountsWith, projectsAt, lengthBeside, Writable, AtPromise, LinesPromise};
 
 // The length that is judged beside the ledger's: that of the errors where it differs, and else that of the amounts.
 fn length_beside(ledger: usize, errors: usize, amounts: usize) -> usize
@@ -21,7 +22,7 @@ fn length_beside(ledger: usize, errors: usize, amounts: usize) -> usize
     if errors == ledger { amounts } else { errors }
 }
 
-// What a line projects: its error where it is full, its amount where it is drawn, 0 elsewhere.
+// The size of what a line projects: that of its error where it is full, its amount where it is drawn, 0 elsewhere.
 fn projected(value: u64, error: u64, interval: u64, next: Ahead) -> u64
     requires { ⌜ (error ≤ value) × (interval ≤ mostInterval) ⌝ }
     ensures { λ r. ⌜ r ≡ projects (lineAt interval (next .0) value error) ⌝ }
@@ -35,16 +36,30 @@ fn projected(value: u64, error: u64, interval: u64, next: Ahead) -> u64
     }
 }
 
+// What a line projects, with the sign of its error; without an error it is nothing.
+fn signed_amount(value: u64, error: i64, interval: u64, next: Ahead) -> i64
+    requires { ⌜ (sizeOf error ≤ value) × (interval ≤ mostInterval) ⌝ }
+    ensures { λ r. ⌜ r ≡ projectsAt interval (next .0) value error ⌝ }
+{
+    if error == 0 {
+        return 0;
+    }
+    let size = signed::size_of(error);
+    let amount = projected(value, size, interval, next);
+    signed::signed_of(amount, error < 0)
+}
+
 // Writes what each line projects, walking along the lines a second time.
-fn write_amounts(ledger: &[u64], interval: u64, start: Cent, errors: &[u64], amounts: &mut [u64])
+fn write_amounts(ledger: &[u64], interval: u64, start: Cent, errors: &[i64], amounts: &mut [i64])
     requires { ⌜ Writable interval (now ledger) (now errors) (now amounts) ⌝ }
-    ensures { λ _. ⌜ now (amounts .exit) ≡ eachProjects (linesOf interval (start .0) (now (ledger .entry)) (now (errors .entry))) ⌝ }
+    ensures { λ _. ⌜ now (amounts .exit) ≡ amountsWith (now (errors .entry)) (linesWith Size interval (start .0) (now (ledger .entry)) (now (errors .entry))) ⌝ }
 {
     let mut next = Ahead(start.0);
     let mut item: usize = 0;
     while item < ledger.len() {
         let value = ledger[item];
-        amounts[item] = projected(value, errors[item], interval, next);
+        let amount = signed_amount(value, errors[item], interval, next);
+        amounts[item] = amount;
         next = walk::step_over(value, interval, next);
         item += 1;
     }
@@ -55,8 +70,8 @@ fn project_at(
     ledger: &[u64],
     interval: u64,
     start: Cent,
-    errors: &[u64],
-    amounts: &mut [u64],
+    errors: &[i64],
+    amounts: &mut [i64],
 ) -> ProjectAnswer
     requires { ⌜ Ready 0 interval (start .0) (now ledger) (now errors) × (length (now amounts) ≡ length (now ledger)) ⌝ }
     ensures { λ r. ⌜ AtPromise interval (start .0) (now (ledger .entry)) (now (errors .entry)) (now (amounts .entry)) r (now (amounts .exit)) ⌝ }
@@ -76,8 +91,8 @@ pub fn project_lines(
     ledger: &[u64],
     n: u64,
     start: u64,
-    errors: &[u64],
-    amounts: &mut [u64],
+    errors: &[i64],
+    amounts: &mut [i64],
 ) -> ProjectAnswer
     ensures { λ r. ⌜ LinesPromise (now (ledger .entry)) n start (now (errors .entry)) (now (amounts .entry)) r (now (amounts .exit)) ⌝ }
 {

@@ -13,7 +13,7 @@ pub extern "C" fn mus_read(
     file: &[u8],
     words: &mut [u64],
     values: &mut [u64],
-    errors: &mut [u64],
+    errors: &mut [i64],
 ) -> ReadResult
     ensures { λ r. ⌜ Sees readSeen readSays (λ a. ReadPromise (now (file .entry)) (now (words .entry)) (now (values .entry)) (now (errors .entry)) a (now (words .exit)) (now (values .exit)) (now (errors .exit))) r ⌝ }
 {
@@ -28,7 +28,7 @@ pub extern "C" fn mus_write(
     ae: u64,
     words: &[u64],
     values: &[u64],
-    errors: &[u64],
+    errors: &[i64],
     file: &mut [u8],
 ) -> WriteResult
     ensures { λ r. ⌜ Sees writeSeen writeSays (λ a. WritePromise (planWith level te ae) (now (words .entry)) (now (values .entry)) (now (errors .entry)) (now (file .entry)) a (now (file .exit))) r ⌝ }

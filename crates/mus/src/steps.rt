@@ -47,36 +47,37 @@ pub extern "C" fn mus_draw(ledger: &[u64], n: u64, start: u64, marks: &mut [u8])
     results::steps::of_draw(draw::draw(ledger, n, start, marks))
 }
 
-// The projection of the errors.
+// The projection of the errors, each kind by itself.
 #[no_mangle]
-pub extern "C" fn mus_project(ledger: &[u64], n: u64, start: u64, errors: &[u64]) -> ProjectResult
+pub extern "C" fn mus_project(ledger: &[u64], n: u64, start: u64, errors: &[i64]) -> ProjectResult
     ensures { λ r. ⌜ Sees projectSeen projectSays (ProjectPromise (now (ledger .entry)) n start (now (errors .entry))) r ⌝ }
 {
     results::steps::of_project(project::project(ledger, n, start, errors))
 }
 
-// The projection of the errors, and what each line projects: its error where it is full, its amount where it is drawn, 0 elsewhere.
+// The projection of the errors, and what each line projects: its error where it is full, its amount with the error's sign where it is
+// drawn, 0 elsewhere.
 #[no_mangle]
 pub extern "C" fn mus_project_lines(
     ledger: &[u64],
     n: u64,
     start: u64,
-    errors: &[u64],
-    amounts: &mut [u64],
+    errors: &[i64],
+    amounts: &mut [i64],
 ) -> ProjectResult
     ensures { λ r. ⌜ Sees projectSeen projectSays (λ a. LinesPromise (now (ledger .entry)) n start (now (errors .entry)) (now (amounts .entry)) a (now (amounts .exit))) r ⌝ }
 {
     results::steps::of_project(lines::project_lines(ledger, n, start, errors, amounts))
 }
 
-// The judgement: the projection with the precision, the upper limit and the verdict.
+// The judgement: the projection, and the precision, the upper limit and the verdict of its overstatements.
 #[no_mangle]
 pub extern "C" fn mus_judge(
     level: u8,
     ledger: &[u64],
     n: u64,
     start: u64,
-    errors: &[u64],
+    errors: &[i64],
     te: u64,
 ) -> JudgeResult
     ensures { λ r. ⌜ Sees judgeSeen judgeSays (JudgePromise level (now (ledger .entry)) n start (now (errors .entry)) te) r ⌝ }

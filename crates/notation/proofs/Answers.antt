@@ -2,6 +2,7 @@
 use mathlib.Core.Path.{_≡_, refl, sym, ap, _∙_}
 use mathlib.Core.Bool.{Bool, true, false, not}
 use mathlib.Core.List.{List}
+use lib.IntN.{ℤ}
 use Prim.Native.Nat.{ℕ}
 use lib.Dec.{ltb}
 use lib.ListN.{length}
@@ -22,7 +23,7 @@ use Rattle.notation.specs.declared.Fault.{Fault}
 use Rattle.notation.specs.declared.ParseAnswer.{ParseAnswer}
 use Rattle.notation.specs.declared.ParseAnswer.the-variants.{Parsed, Faulty}
 
-pub has-rooms : (w v e : List ℕ) → roomFor (length w) (length v) (length e) ≡ true → Rooms w v e
+pub has-rooms : (w v : List ℕ) (e : List ℤ) → roomFor (length w) (length v) (length e) ≡ true → Rooms w v e
 unfolding roomFor
 has-rooms w v e =
     by-test Enough (ltb (length w) mostWords) (λ _ q. clash (cc))
@@ -44,10 +45,10 @@ was-faulty (faulty other place) {wrong} {line} e =
     λ i. faulty (w i) (l i)
 
 -- the test of the rooms
-pub rooms : {w v e : List ℕ} {enough : Bool} → enough ≡ roomFor (length w) (length v) (length e) → not enough ≡ false → Rooms w v e
+pub rooms : {w v : List ℕ} {e : List ℤ} {enough : Bool} → enough ≡ roomFor (length w) (length v) (length e) → not enough ≡ false → Rooms w v e
 rooms {w} {v} {e} {enough} test room = has-rooms w v e (sym test ∙ unturned enough room)
 
-module _ (text w v e : List ℕ) {enough : Bool} (test : enough ≡ roomFor (length w) (length v) (length e)) where
+module _ (text w v : List ℕ) (e : List ℤ) {enough : Bool} (test : enough ≡ roomFor (length w) (length v) (length e)) where
   -- a fault leaves the buffers
   left-alone : {wrong : Wrong} {line : ℕ} → parseOf text (length w) (length v) (length e) ≡ faulty wrong line → ParsePromise text w v e (Faulty (record { line = line; wrong = wrong })) w v e
   left-alone q =
@@ -73,7 +74,7 @@ module _ (text w v e : List ℕ) {enough : Bool} (test : enough ≡ roomFor (len
       pub found-faulty : {fault : Fault} → r ≡ Faulty fault → ParsePromise text w v e (Faulty fault) w v e
       found-faulty {fault} q = left-alone (roomed ∙ was-faulty (textOf text) (sym first ∙ ap parseSays q))
 
-      pub found-whole : {contents : Contents} → r ≡ Parsed contents → {w′ v′ e′ : List ℕ} {r′ : ParseAnswer} → OnePass text w v e r′ w′ v′ e′ → ParsePromise text w v e r′ w′ v′ e′
+      pub found-whole : {contents : Contents} → r ≡ Parsed contents → {w′ v′ : List ℕ} {e′ : List ℤ} {r′ : ParseAnswer} → OnePass text w v e r′ w′ v′ e′ → ParsePromise text w v e r′ w′ v′ e′
       found-whole q second =
           let said = was-said (textOf text) (sym first ∙ ap parseSays q) in
           let kept = second .kept (said .0) (said .1) in

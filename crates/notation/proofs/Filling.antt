@@ -2,6 +2,7 @@
 use mathlib.Core.Path.{_≡_, refl, sym, ap, subst, _∙_}
 use mathlib.Core.Bool.{false}
 use mathlib.Core.List.{List}
+use lib.IntN.{ℤ}
 use Prim.Native.Nat.{ℕ, _+_, _≤_, _<_}
 use lib.ListN.{length}
 use Rattle.workfile.specs.Content.{Content, closing}
@@ -31,17 +32,17 @@ use Rattle.notation.proofs.Taking.{Took}
 use Rattle.notation.proofs.Passing.{Stands, starts, its-content, whole, finished, fault-here, taken-here, onward}
 
 -- storing the record of a line, if it has one
-pub in-place : {found : Record} {t : Tally} {w v e : List ℕ} → HasPlaceOf found t w v e → {r : FileRecord} → found ≡ line.Filed r → HasPlace t r w v e
+pub in-place : {found : Record} {t : Tally} {w v : List ℕ} {e : List ℤ} → HasPlaceOf found t w v e → {r : FileRecord} → found ≡ line.Filed r → HasPlace t r w v e
 in-place has {r} is = has .place r is
 
-pub put-filed : {found : Record} {t : Tally} {w v e w′ v′ e′ : List ℕ} {r : FileRecord} → found ≡ line.Filed r → Put t r w v e w′ v′ e′ → Put t (filed found) w v e w′ v′ e′
+pub put-filed : {found : Record} {t : Tally} {w v w′ v′ : List ℕ} {e e′ : List ℤ} {r : FileRecord} → found ≡ line.Filed r → Put t r w v e w′ v′ e′ → Put t (filed found) w v e w′ v′ e′
 put-filed is put = rw is put
 
 tally-of : {c : Content} {found : Record} {next : State} → Took c found next → tallyOf (grown c found) ≡ next .tally
 tally-of took = ap (λ (s : State). s .tally) (took .state)
 
 -- the buffers with one line more, of the content d
-module _ {c : Content} {t : Tally} {ws vs es w v e w′ v′ e′ : List ℕ} (held : Holds c t ws vs es w v e) where
+module _ {c : Content} {t : Tally} {ws vs w v w′ v′ : List ℕ} {es e e′ : List ℤ} (held : Holds c t ws vs es w v e) where
   other-line : (d : Content) (u : Tally) → tallyOf d ≡ u → SoFar d → d .words ≡ c .words → d .values ≡ c .values → d .errors ≡ c .errors → Put t Nothing w v e w′ v′ e′
       → Holds d u ws vs es w′ v′ e′
   other-line d u tally so same-words same-values same-errors put =
@@ -50,7 +51,7 @@ module _ {c : Content} {t : Tally} {ws vs es w v e w′ v′ e′ : List ℕ} (h
         so-far = so;
         words = put .words ∙ held .words ∙ ap (λ (l : List ℕ). over l ws) (sym same-words);
         values = put .values ∙ held .values ∙ ap (λ (l : List ℕ). over l vs) (sym same-values);
-        errors = put .errors ∙ held .errors ∙ ap (λ (l : List ℕ). over l es) (sym same-errors);
+        errors = put .errors ∙ held .errors ∙ ap (λ (l : List ℤ). over l es) (sym same-errors);
       }
 
   held-line : (found : Record) (next : State) → Took c found next → Rooms ws vs es → Put t (filed found) w v e w′ v′ e′ → Holds (grown c found) (next .tally) ws vs es w′ v′ e′
@@ -63,17 +64,17 @@ module _ {c : Content} {t : Tally} {ws vs es w v e w′ v′ e′ : List ℕ} (h
   held-line (line.Unreadable wrong) next took rooms put = other-line c (next .tally) (tally-of took) (took .so-far) refl refl refl put
 
 -- before a line
-pub record Filling (text : List ℕ) (at line : ℕ) (s : State) (ws vs es w v e : List ℕ) : Type 0 where
+pub record Filling (text : List ℕ) (at line : ℕ) (s : State) (ws vs : List ℕ) (es : List ℤ) (w v : List ℕ) (e : List ℤ) : Type 0 where
   pub stands : Stands text at line s
   pub rooms : Rooms ws vs es
   pub held : Holds (stands .read) (s .tally) ws vs es w v e
 
-pub begins : {text : List ℕ} {s : State} {ws vs es : List ℕ} → s ≡ stateOf false emptyContent → Rooms ws vs es → Filling text 0 1 s ws vs es ws vs es
+pub begins : {text : List ℕ} {s : State} {ws vs : List ℕ} {es : List ℤ} → s ≡ stateOf false emptyContent → Rooms ws vs es → Filling text 0 1 s ws vs es ws vs es
 unfolding starts
 begins {text} {s} {ws} {vs} {es} e rooms =
     record { stands = starts e; rooms = rooms; held = subst (λ (u : State). Holds emptyContent (u .tally) ws vs es ws vs es) (sym e) holds-none }
 
-module _ {text : List ℕ} {at line : ℕ} {s : State} {ws vs es w v e : List ℕ} (fill : Filling text at line s ws vs es w v e) where
+module _ {text : List ℕ} {at line : ℕ} {s : State} {ws vs w v : List ℕ} {es e : List ℤ} (fill : Filling text at line s ws vs es w v e) where
   pub words-long : length w ≡ length ws
   words-long = lengths (fill .held) (fill .rooms) .words
 
@@ -90,7 +91,7 @@ module _ {text : List ℕ} {at line : ℕ} {s : State} {ws vs es w v e : List �
   pub values-same : (v′ : List ℕ) → length v′ ≡ length v → length v′ ≡ length vs
   values-same v′ h = h ∙ values-long
 
-  pub errors-same : (e′ : List ℕ) → length e′ ≡ length e → length e′ ≡ length es
+  pub errors-same : (e′ : List ℤ) → length e′ ≡ length e → length e′ ≡ length es
   errors-same e′ h = h ∙ errors-long
 
   -- at a line
@@ -106,7 +107,7 @@ module _ {text : List ℕ} {at line : ℕ} {s : State} {ws vs es w v e : List �
           let took = taken-here (fill .stands) inside turn on in
           record { place = λ r is. has-place (fill .held) (fill .rooms) (subst (λ (t : Tally). Rule t r) (fill .held .tally) (took .rule-kept r is)) }
 
-      pub fills : {w′ v′ e′ : List ℕ} → Put (s .tally) (filed found) w v e w′ v′ e′ → Filling text to (line + 1) next ws vs es w′ v′ e′
+      pub fills : {w′ v′ : List ℕ} {e′ : List ℤ} → Put (s .tally) (filed found) w v e w′ v′ e′ → Filling text to (line + 1) next ws vs es w′ v′ e′
       unfolding onward
       fills put =
           record {
@@ -119,7 +120,7 @@ module _ {text : List ℕ} {at line : ℕ} {s : State} {ws vs es w v e : List �
   pub end-place : HasPlace (s .tally) (End (s .tally .lines) (s .tally .sum)) w v e
   end-place = has-place (fill .held) (fill .rooms) (refl, refl)
 
-  pub filled : length text ≤ at → {r : ParseAnswer} {w′ v′ e′ : List ℕ} → Put (s .tally) (End (s .tally .lines) (s .tally .sum)) w v e w′ v′ e′ → parseSays r ≡ endOf s line
+  pub filled : length text ≤ at → {r : ParseAnswer} {w′ v′ : List ℕ} {e′ : List ℤ} → Put (s .tally) (End (s .tally .lines) (s .tally .sum)) w v e w′ v′ e′ → parseSays r ≡ endOf s line
       → OnePass text ws vs es r w′ v′ e′
   filled h {r} {w′} {v′} {e′} put a =
       let c = fill .stands .read in

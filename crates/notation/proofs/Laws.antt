@@ -2,6 +2,7 @@
 use mathlib.Core.Path.{_≡_, refl, sym, ap, subst, _∙_}
 use mathlib.Core.Bool.{Bool, false}
 use mathlib.Core.List.{List, [], _∷_}
+use lib.IntN.{ℤ}
 use Prim.Native.Nat.{ℕ, suc, _≤_}
 use native.Mathlib.Omega.{arith}
 use lib.ListN.{length}
@@ -65,13 +66,13 @@ said-once (Faulty f) (Faulty g) e =
     λ i. Faulty (record { line = l i; wrong = w i })
 
 -- any two results that keep the promise agree
-pub record Agree (r s : ParseAnswer) (w v e w′ v′ e′ : List ℕ) : Type 0 where
+pub record Agree (r s : ParseAnswer) (w v : List ℕ) (e : List ℤ) (w′ v′ : List ℕ) (e′ : List ℤ) : Type 0 where
   pub answers : r ≡ s
   pub words : w ≡ w′
   pub values : v ≡ v′
   pub errors : e ≡ e′
 
-pub parsed-once : {text w v e w₁ v₁ e₁ w₂ v₂ e₂ : List ℕ} {r s : ParseAnswer} → ParsePromise text w v e r w₁ v₁ e₁ → ParsePromise text w v e s w₂ v₂ e₂
+pub parsed-once : {text w v w₁ v₁ w₂ v₂ : List ℕ} {e e₁ e₂ : List ℤ} {r s : ParseAnswer} → ParsePromise text w v e r w₁ v₁ e₁ → ParsePromise text w v e s w₂ v₂ e₂
     → Agree r s w₁ v₁ e₁ w₂ v₂ e₂
 parsed-once {r = r} {s = s} p q =
     record {

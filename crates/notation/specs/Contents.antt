@@ -24,7 +24,8 @@ pub data Reading (A : Type 0) : Type 0 where
 unfoldable pub brokenRule : Tally → FileRecord → Wrong
 brokenRule t (FileRecord.Word w) = pick (ltb 0 (t .lines)) Wrong.OutOfOrder Wrong.TooManyWords
 brokenRule t (FileRecord.Value v) = pick (ltb 0 (t .«next_line»)) Wrong.OutOfOrder (pick (ltb (t .lines) mostFileLines) Wrong.TotalTooLarge Wrong.TooManyLines)
-brokenRule t (FileRecord.ErrorOf l e) = pick (ltb l (t .lines)) (pick (ltb l (t .«next_line»)) Wrong.LineNotRising Wrong.ErrorZero) Wrong.UnknownLine
+brokenRule t (FileRecord.ErrorOf u l n) =
+    pick (ltb l (t .lines)) (pick (ltb l (t .«next_line»)) Wrong.LineNotRising (pick (ltb 0 n) Wrong.ErrorTooLarge Wrong.ErrorZero)) Wrong.UnknownLine
 brokenRule t (FileRecord.End n s) = Wrong.UnknownKind
 brokenRule t FileRecord.Nothing = Wrong.UnknownKind
 
@@ -74,7 +75,7 @@ goOn (Taken.With s) line rest = rest (s .planned)
 goOn (Taken.Not wrong) line rest = faulty wrong line
 
 -- Line by line, from a line's number, whether P was among those before it, and their content. The text ends with the line after its last, and
--- its end is the Z that its counts imply: lines without E have error 0.
+-- its end is the Z that its counts imply: lines without E and U have error 0.
 unfoldable pub readLines : ℕ → Bool → Content → List (List ℕ) → Reading Content
 unfolding grow takenOf grown recordIn
 readLines line planned c [] = pick planned (says (grow c (closing c))) (faulty Wrong.NoPlan line)

@@ -3,6 +3,7 @@ use Prim.Native.Nat.{ℕ}
 use mathlib.Core.Path.{_≡_}
 use mathlib.Core.Bool.{Bool, false}
 use mathlib.Core.List.{List}
+use lib.IntN.{ℤ}
 use lib.Dec.{leb, ltb}
 use lib.ListN.{length}
 use Rattle.terms.specs.Numbers.{pick}
@@ -23,7 +24,7 @@ readingCounts (says c) = says (counted c)
 readingCounts (faulty wrong line) = faulty wrong line
 
 -- a lent buffer at exit: what was read laid over it; a faulty text leaves what was there
-abbrev pub leftOver : (Content → List ℕ) → List ℕ → Reading Content → List ℕ
+abbrev pub leftOver : {A : Type 0} → (Content → List A) → List A → Reading Content → List A
 leftOver part before (says c) = over (part c) before
 leftOver part before (faulty wrong line) = before
 
@@ -37,7 +38,7 @@ unfolding roomFor textOf
 parseOf text words values errors = pick (roomFor words values errors) (textOf text) (faulty Wrong.NoRoom 0)
 
 -- the parser's promise: words, values and errors are the buffers before, words′, values′ and errors′ after
-pub record ParsePromise (text words values errors : List ℕ) (r : ParseAnswer) (words′ values′ errors′ : List ℕ) : Type 0 where
+pub record ParsePromise (text words values : List ℕ) (errors : List ℤ) (r : ParseAnswer) (words′ values′ : List ℕ) (errors′ : List ℤ) : Type 0 where
   pub answer : parseSays r ≡ readingCounts (parseOf text (length words) (length values) (length errors))
   pub words-left : words′ ≡ leftOver (λ c. c .words) words (parseOf text (length words) (length values) (length errors))
   pub values-left : values′ ≡ leftOver (λ c. c .values) values (parseOf text (length words) (length values) (length errors))

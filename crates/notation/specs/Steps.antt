@@ -2,6 +2,7 @@
 use Prim.Native.Nat.{ℕ}
 use mathlib.Core.Path.{_≡_}
 use mathlib.Core.List.{List}
+use lib.IntN.{ℤ}
 use Rattle.terms.specs.Numbers.{pick}
 use Rattle.workfile.specs.Content.{Content}
 use Rattle.workfile.specs.Promises.{over}
@@ -32,7 +33,7 @@ filed (Record.Plan level te ae) = FileRecord.Nothing
 filed (Record.Filed r) = r
 filed (Record.Unreadable wrong) = FileRecord.Nothing
 
-pub record HasPlaceOf (found : Record) (t : Tally) (w v e : List ℕ) : Type 0 where
+pub record HasPlaceOf (found : Record) (t : Tally) (w v : List ℕ) (e : List ℤ) : Type 0 where
   pub place : (r : FileRecord) → found ≡ Record.Filed r → HasPlace t r w v e
 
 -- at the end of the text
@@ -43,6 +44,6 @@ unfoldable pub endOf : State → ℕ → Reading Contents
 endOf s line = pick (s .planned) (says (contentsOf s)) (faulty Wrong.NoPlan line)
 
 -- the pass that stores: what a text that is not faulty says lies over the buffers
-pub record OnePass (text w v e : List ℕ) (r : ParseAnswer) (w′ v′ e′ : List ℕ) : Type 0 where
+pub record OnePass (text w v : List ℕ) (e : List ℤ) (r : ParseAnswer) (w′ v′ : List ℕ) (e′ : List ℤ) : Type 0 where
   pub answer : parseSays r ≡ readingCounts (textOf text)
   pub kept : (c : Content) → textOf text ≡ says c → (w′ ≡ over (c .words) w) × (v′ ≡ over (c .values) v) × (e′ ≡ over (c .errors) e)

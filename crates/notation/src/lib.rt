@@ -141,7 +141,7 @@ fn check(text: &[u8]) -> ParseAnswer
 }
 
 // The record of a line, if it has one, goes to its place.
-fn keep(found: Record, tally: Tally, words: &mut [u64], values: &mut [u64], errors: &mut [u64])
+fn keep(found: Record, tally: Tally, words: &mut [u64], values: &mut [u64], errors: &mut [i64])
     requires { ⌜ HasPlaceOf found tally (now words) (now values) (now errors) ⌝ }
     ensures { λ r. ⌜ Put tally (filed found) (now (words .entry)) (now (values .entry)) (now (errors .entry)) (now (words .exit)) (now (values .exit)) (now (errors .exit)) ⌝ }
 {
@@ -153,8 +153,8 @@ fn keep(found: Record, tally: Tally, words: &mut [u64], values: &mut [u64], erro
     }
 }
 
-// The second pass stores. Its end is the Z that the counts imply: lines after the last E get error 0.
-fn fill(text: &[u8], words: &mut [u64], values: &mut [u64], errors: &mut [u64]) -> ParseAnswer
+// The second pass stores. Its end is the Z that the counts imply: lines after the last E or U get error 0.
+fn fill(text: &[u8], words: &mut [u64], values: &mut [u64], errors: &mut [i64]) -> ParseAnswer
     requires { ⌜ Rooms (now words) (now values) (now errors) ⌝ }
     ensures { λ r. ⌜ OnePass (now (text .entry)) (now (words .entry)) (now (values .entry)) (now (errors .entry)) r (now (words .exit)) (now (values .exit)) (now (errors .exit)) ⌝ }
 {
@@ -196,7 +196,7 @@ fn has_room(words: usize, values: usize, errors: usize) -> bool
 }
 
 // The contents of a text, or its first fault; a faulty text changes nothing.
-pub fn parse(text: &[u8], words: &mut [u64], values: &mut [u64], errors: &mut [u64]) -> ParseAnswer
+pub fn parse(text: &[u8], words: &mut [u64], values: &mut [u64], errors: &mut [i64]) -> ParseAnswer
     ensures { λ r. ⌜ ParsePromise (now (text .entry)) (now (words .entry)) (now (values .entry)) (now (errors .entry)) r (now (words .exit)) (now (values .exit)) (now (errors .exit)) ⌝ }
 {
     if !has_room(words.len(), values.len(), errors.len()) {

@@ -33,14 +33,17 @@ fn broken_value(tally: Tally, value: u64) -> Wrong
     Wrong::TotalTooLarge
 }
 
-fn broken_error(tally: Tally, line: usize, error: u64) -> Wrong
-    ensures { λ r. ⌜ r ≡ brokenRule tally (ErrorOf line error) ⌝ }
+fn broken_error(tally: Tally, under: bool, line: usize, size: u64) -> Wrong
+    ensures { λ r. ⌜ r ≡ brokenRule tally (ErrorOf under line size) ⌝ }
 {
     if line >= tally.lines {
         return Wrong::UnknownLine;
     }
     if line < tally.next_line {
         return Wrong::LineNotRising;
+    }
+    if 0 < size {
+        return Wrong::ErrorTooLarge;
     }
     Wrong::ErrorZero
 }
@@ -52,7 +55,7 @@ fn broken_rule(tally: Tally, found: FileRecord) -> Wrong
     match found {
         FileRecord::Word(word) => broken_word(tally, word),
         FileRecord::Value(value) => broken_value(tally, value),
-        FileRecord::ErrorOf(line, error) => broken_error(tally, line, error),
+        FileRecord::ErrorOf(under, line, size) => broken_error(tally, under, line, size),
         FileRecord::End(_, _) => Wrong::UnknownKind,
         FileRecord::Nothing => Wrong::UnknownKind,
     }

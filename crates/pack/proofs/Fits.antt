@@ -1,6 +1,7 @@
 -- What the parser and the writer count fits the buffers that they leave. Assumes nothing.
 use mathlib.Core.Path.{_≡_, sym, ap, _∙_}
 use mathlib.Core.List.{List}
+use lib.IntN.{ℤ}
 use Prim.Native.Nat.{ℕ, _≤_}
 use native.Mathlib.Omega.{arith}
 use lib.ListN.{length, take, drop, length-append}
@@ -19,19 +20,19 @@ use Rattle.notation.specs.Contents.{says}
 use Rattle.notation.specs.Parse.{parseSays, parseOf, leftOver, ParsePromise}
 use Rattle.notation.proofs.Answers.{was-said}
 
-over-long : (new old result : List ℕ) → result ≡ over new old → length new ≤ length result
+over-long : {A : Type 0} (new old result : List A) → result ≡ over new old → length new ≤ length result
 over-long new old result e = omega (arith, ap length e, length-append new (drop (length new) old))
 
-pub written-fits : {plan : Plan} {words values errors file file′ : List ℕ} {r : WriteAnswer} {l : ℕ} → WritePromise plan words values errors file r file′ → r ≡ Written l
+pub written-fits : {plan : Plan} {words values file file′ : List ℕ} {errors : List ℤ} {r : WriteAnswer} {l : ℕ} → WritePromise plan words values errors file r file′ → r ≡ Written l
     → l ≤ length file′
-written-fits {plan} {words} {values} {errors} {file} {file′} {r} {l} p q =
+written-fits {plan} {words} {values} {file} {file′} {errors} {r} {l} p q =
     let o = writeOf (contentWith plan words values errors) (length file) in
     let found = after-accepted (λ bs. accepted (length bs)) o l (sym (p .answer) ∙ ap writeSays q) in
     let same : length (found .0) ≡ l = cc (found .2) in
     omega (arith, over-long (found .0) file file′ (p .file-left ∙ ap (left (λ bs. over bs file) file) (found .1)))
 
 -- the parts of the parser's buffers that are handed on
-module _ {text w v e w′ v′ e′ : List ℕ} {r : ParseAnswer} (p : ParsePromise text w v e r w′ v′ e′) {k : Contents} (q : r ≡ Parsed k) where
+module _ {text w v w′ v′ : List ℕ} {e e′ : List ℤ} {r : ParseAnswer} (p : ParsePromise text w v e r w′ v′ e′) {k : Contents} (q : r ≡ Parsed k) where
   said : (c : Content) × (parseOf text (length w) (length v) (length e) ≡ says c) × (counted c ≡ k)
   said = was-said (parseOf text (length w) (length v) (length e)) (sym (p .answer) ∙ ap parseSays q)
 
@@ -48,5 +49,5 @@ module _ {text w v e w′ v′ e′ : List ℕ} {r : ParseAnswer} (p : ParseProm
   pub errors-fit : {n : ℕ} → length v′ ≡ n → length e′ ≡ n → k .lines ≤ length e′
   errors-fit a b = omega (arith, values-fit)
 
-pub part-long : (n : ℕ) (l : List ℕ) → n ≤ length l → n ≡ length (take n l)
+pub part-long : {A : Type 0} (n : ℕ) (l : List A) → n ≤ length l → n ≡ length (take n l)
 part-long n l h = sym (length-take-le n l h)

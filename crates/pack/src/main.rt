@@ -20,7 +20,7 @@ fn put_fault(fault: Fault) {
 }
 
 // The file of a content, written at once.
-fn put_file(contents: Contents, words: &[u64], values: &[u64], errors: &[u64]) {
+fn put_file(contents: Contents, words: &[u64], values: &[u64], errors: &[i64]) {
     let mut file = [0u8; workfile::LONGEST_FILE];
     match writer::write(
         contents.level,
@@ -45,7 +45,7 @@ fn put_file(contents: Contents, words: &[u64], values: &[u64], errors: &[u64]) {
 fn pack(text: &[u8]) {
     let mut words = [0u64; workfile::MOST_WORDS];
     let mut values = [0u64; workfile::MOST_FILE_LINES];
-    let mut errors = [0u64; workfile::MOST_FILE_LINES];
+    let mut errors = [0i64; workfile::MOST_FILE_LINES];
     match notation::parse(text, &mut words, &mut values, &mut errors) {
         ParseAnswer::Faulty(fault) => put_fault(fault),
         ParseAnswer::Parsed(contents) => {

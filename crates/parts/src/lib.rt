@@ -41,3 +41,12 @@ pub fn part_to_fill(numbers: &mut [u64], from: usize, count: usize) -> &mut [u64
     }
     numbers
 }
+
+// So many numbers with a sign from the start, to be written.
+pub fn signed_to_fill(numbers: &mut [i64], count: usize) -> &mut [i64] {
+    let from = 0;
+    if count <= numbers.len() {
+        return &mut numbers[from..count];
+    }
+    numbers
+}

@@ -4,9 +4,15 @@ use Prim.Native.Nat.{ℕ, suc, _+_, _≤_, _<_}
 use mathlib.Core.Path.{_≡_, refl, sym, ap, _∙_}
 use mathlib.Core.Bool.{Bool, true, false}
 use lib.Dec.{ltb}
+use lib.IntN.{ℤ, pos}
+use lib.Signed.{ltZ}
+use mir.Syntax.{w64}
+use mir.Val.{SFits}
+use Rattle.signed.specs.Errors.{sizeOf}
+use Rattle.signed.proofs.Signs.{held, kind-read, size-read}
 use Rattle.terms.specs.Numbers.{pick}
-use Rattle.pen.specs.Text.{decimal, fields, line, more}
-use mathlib.Core.List.{List, [], _∷_, _++_, map, append-assoc}
+use Rattle.pen.specs.Text.{decimal, sizedText, signedText, fields, line, more}
+use mathlib.Core.List.{List, [], _∷_, _++_, map, append-assoc, append-nil}
 use native.Mathlib.Omega.{arith}
 use native.Mathlib.Numerals.{add-one}
 use borrow.Author.Tests.{lt-ltb, le-ltb}
@@ -122,13 +128,18 @@ module _ {o o′ : List ℕ} {a a′ : ℕ} {text : List ℕ} (l : List ℕ) (i 
   pub fields-laid : Left o a text o′ a′ (fields (drop i l)) → length l ≤ i → Wrote o a text o′ a′
   fields-laid left h = left-none left (fields-none l i h)
 
-pub line-parts : (w : List ℕ) (ns : List ℕ) → line (w ∷ map decimal ns) ≡ w ++ (fields ns ++ (10 ∷ []))
+-- numbers, and further words after them
+more-parts : (ns : List ℕ) (ws : List (List ℕ)) → more (map decimal ns ++ ws) ≡ fields ns ++ more ws
 unfolding fields
-line-parts w ns = ap (λ (l : List ℕ). w ++ l) (go ns)
-  where
-    go : (ns : List ℕ) → more (map decimal ns) ≡ fields ns ++ (10 ∷ [])
-    go [] = refl
-    go (n ∷ ns) = ap (λ (l : List ℕ). 32 ∷ l) (ap (λ (l : List ℕ). decimal n ++ l) (go ns) ∙ sym (append-assoc (decimal n) (fields ns) (10 ∷ [])))
+more-parts [] ws = refl
+more-parts (n ∷ ns) ws =
+    ap (λ (l : List ℕ). 32 ∷ l) (ap (λ (l : List ℕ). decimal n ++ l) (more-parts ns ws) ∙ sym (append-assoc (decimal n) (fields ns) (more ws)))
+
+pub words-parts : (w ns : List ℕ) (ws : List (List ℕ)) → line (w ∷ (map decimal ns ++ ws)) ≡ w ++ (fields ns ++ more ws)
+words-parts w ns ws = ap (λ (l : List ℕ). w ++ l) (more-parts ns ws)
+
+pub line-parts : (w ns : List ℕ) → line (w ∷ map decimal ns) ≡ w ++ (fields ns ++ (10 ∷ []))
+line-parts w ns = ap (λ (ws : List (List ℕ)). line (w ∷ ws)) (sym (append-nil (map decimal ns))) ∙ words-parts w ns []
 
 -- the same text, otherwise said
 pub as-text : {o o′ : List ℕ} {a a′ : ℕ} {x y : List ℕ} → y ≡ x → Wrote o a x o′ a′ → Wrote o a y o′ a′
@@ -138,9 +149,33 @@ as-text {o} {o′} {a} {a′} e w = rw e w
 pub after-space : {o o′ o″ : List ℕ} {a a′ a″ : ℕ} {x : List ℕ} → Wrote o a (32 ∷ []) o′ a′ → Wrote o′ a′ x o″ a″ → Wrote o a (32 ∷ x) o″ a″
 after-space u v = u ⨾ v
 
+-- a size with its sign
+pub sized-under : {o o′ o″ : List ℕ} {a a′ a″ : ℕ} (n : ℕ) {u : Bool} → u ≡ true → Wrote o a (45 ∷ []) o′ a′ → Wrote o′ a′ (decimal n) o″ a″
+    → Wrote o a (sizedText n u) o″ a″
+unfolding sizedText
+sized-under n is minus number = as-text (ap (sizedText n) is) (minus ⨾ number)
+
+pub sized-over : {o o′ : List ℕ} {a a′ : ℕ} (n : ℕ) {u : Bool} → u ≡ false → Wrote o a (decimal n) o′ a′ → Wrote o a (sizedText n u) o′ a′
+unfolding sizedText
+sized-over n is number = as-text (ap (sizedText n) is) number
+
+-- a signed number by the size and the sign that were read of it
+pub signed-read : (e : ℤ) {n : ℕ} → SFits w64 e → n ≡ sizeOf (held e) → signedText e ≡ sizedText n (ltZ (held e) (pos 0))
+unfolding signedText
+signed-read e fits size = λ i. sizedText (sym (size-read e (fits .sfits) size) i) (kind-read e (fits .sfits) refl i)
+
+pub signed-laid : {o o′ : List ℕ} {a a′ : ℕ} (e : ℤ) {n : ℕ} → SFits w64 e → n ≡ sizeOf (held e) → Wrote o a (sizedText n (ltZ (held e) (pos 0))) o′ a′
+    → Wrote o a (signedText e) o′ a′
+signed-laid e fits size written = as-text (signed-read e fits size) written
+
 pub line-laid : (ns : List ℕ) {o o₁ o₂ o₃ w : List ℕ} {a a₁ a₂ a₃ : ℕ} → Wrote o a w o₁ a₁ → Wrote o₁ a₁ (fields ns) o₂ a₂ → Wrote o₂ a₂ (10 ∷ []) o₃ a₃
     → Wrote o a (line (w ∷ map decimal ns)) o₃ a₃
 line-laid ns {w = w} opened filled ended = as-text (line-parts w ns) (opened ⨾ filled ⨾ ended)
+
+-- a line that goes on after its numbers
+pub words-laid : (ns : List ℕ) (ws : List (List ℕ)) {o o₁ o₂ o₃ w : List ℕ} {a a₁ a₂ a₃ : ℕ} → Wrote o a w o₁ a₁ → Wrote o₁ a₁ (fields ns) o₂ a₂ → Wrote o₂ a₂ (more ws) o₃ a₃
+    → Wrote o a (line (w ∷ (map decimal ns ++ ws))) o₃ a₃
+words-laid ns ws {w = w} opened filled ended = as-text (words-parts w ns ws) (opened ⨾ filled ⨾ ended)
 
 -- with enough room, from the start of the page
 pub printed : (text old : List ℕ) (r : ℕ) (new : List ℕ) → length text ≤ length old → Wrote old 0 text new r → Printed text old r new

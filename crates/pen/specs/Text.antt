@@ -1,8 +1,11 @@
 -- Texts as bytes: a number in decimal, a line of words. Definitions: nothing is assumed.
 use Prim.Native.Nat.{ℕ, zero, suc, _+_, _/_, _%_}
+use mathlib.Core.Bool.{Bool, true, false}
 use mathlib.Core.List.{List, [], _∷_, _++_}
 use lib.Dec.{ltb}
+use lib.IntN.{ℤ}
 use Rattle.terms.specs.Numbers.{pick}
+use Rattle.signed.specs.Errors.{sizeOf, isUnder}
 
 -- the ASCII digit of a number below 10
 abbrev pub digit : ℕ → ℕ
@@ -15,6 +18,15 @@ decimalIn (suc k) n = let front = decimalIn k (n / 10) in pick (ltb n 10) (digit
 
 unfoldable pub decimal : ℕ → List ℕ
 decimal n = decimalIn n n
+
+-- a size with the sign of its kind: a minus before it where it is understated
+unfoldable pub sizedText : ℕ → Bool → List ℕ
+sizedText n false = decimal n
+sizedText n true = 45 ∷ decimal n
+
+-- a signed number
+unfoldable pub signedText : ℤ → List ℕ
+signedText e = sizedText (sizeOf e) (isUnder e)
 
 -- words joined by one space and ended by a newline
 abbrev pub more : List (List ℕ) → List ℕ

@@ -1,6 +1,6 @@
 // Text as bytes, written on a lent page. At the end of the page the pen stops, so every call is allowed.
 ghost use mathlib.Core.List.{_∷_, [], map};
-ghost use Rattle.pen.specs.Text.{decimal, fields as fieldsText, line as lineText};
+ghost use Rattle.pen.specs.Text.{decimal, sizedText, signedText, fields as fieldsText, line as lineText};
 ghost use Rattle.pen.specs.Page.{Wrote};
 
 // The place of the next byte.
@@ -45,6 +45,32 @@ impl Pen {
         }
         let pen = self.number(out, n / 10);
         pen.byte(out, 48 + (n % 10) as u8)
+    }
+
+    // A size with the sign of its kind: a minus before it where it is understated.
+    pub fn sized(self, out: &mut [u8], size: u64, under: bool) -> Pen
+        ensures { λ r. ⌜ Wrote (now (out .entry)) (self .at) (sizedText size under) (now (out .exit)) (r .at) ⌝ }
+    {
+        if under {
+            let pen = self.byte(out, 45);
+            return pen.number(out, size);
+        }
+        self.number(out, size)
+    }
+
+    // A signed number in decimal.
+    pub fn signed(self, out: &mut [u8], e: i64) -> Pen
+        ensures { λ r. ⌜ Wrote (now (out .entry)) (self .at) (signedText e) (now (out .exit)) (r .at) ⌝ }
+    {
+        self.sized(out, signed::size_of(e), e < 0)
+    }
+
+    // A space and a size with its sign.
+    pub fn sized_field(self, out: &mut [u8], size: u64, under: bool) -> Pen
+        ensures { λ r. ⌜ Wrote (now (out .entry)) (self .at) (32 ∷ sizedText size under) (now (out .exit)) (r .at) ⌝ }
+    {
+        let parted = self.byte(out, 32);
+        parted.sized(out, size, under)
     }
 
     // A space and a number.

@@ -34,9 +34,9 @@ pub fn interval() {
 }
 
 // The projected error of one rate.
-fn projected(rate: u64) {
+fn projected(rate: i64) {
     let lines = ledger();
-    let mut errors = [0u64; 137];
+    let mut errors = [0i64; 137];
     errors[0] = rate;
     found(calls::project(&lines, 136, 0, &errors));
 }
@@ -51,9 +51,9 @@ pub fn projections() {
 }
 
 // The precision without errors is the basic one; the first order's allowance joins it.
-fn precision(rate: u64) {
+fn precision(rate: i64) {
     let lines = ledger();
-    let mut errors = [0u64; 137];
+    let mut errors = [0i64; 137];
     errors[0] = rate;
     found(calls::judge(90, &lines, 136, 0, &errors, TE));
 }

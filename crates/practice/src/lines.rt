@@ -29,7 +29,7 @@ fn open(page: &mut [u8]) -> Pen {
 
 // A case that finds an answer.
 pub fn found(answer: Answer) {
-    let mut page = [0u8; 200];
+    let mut page = [0u8; 256];
     let opened = open(&mut page);
     let told = answers::put(opened, &mut page, answer);
     answers::write_line(&mut page, told);
@@ -37,7 +37,7 @@ pub fn found(answer: Answer) {
 
 // A case that finds a number.
 pub fn number(found: u64) {
-    let mut page = [0u8; 200];
+    let mut page = [0u8; 256];
     let opened = open(&mut page);
     let told = opened.field(&mut page, found);
     answers::write_line(&mut page, told);
@@ -55,7 +55,7 @@ fn put_marks(pen: Pen, page: &mut [u8], marks: &[u8]) -> Pen {
 
 // A case that finds marks.
 pub fn marks(found: &[u8]) {
-    let mut page = [0u8; 200];
+    let mut page = [0u8; 256];
     let opened = open(&mut page);
     let told = put_marks(opened, &mut page, found);
     answers::write_line(&mut page, told);

@@ -5,6 +5,7 @@ mod lines; // lines.rt: a line of the output
 mod longest; // longest.rt: 1,000,000 lines
 mod sheet; // sheet.rt: the practice sheet
 mod starts; // starts.rt: counts and sums over all starts
+mod understated; // understated.rt: errors below 0
 
 fn main() {
     sheet::sizes();
@@ -16,7 +17,12 @@ fn main() {
     sheet::judgements();
     sheet::widest_intervals();
     sheet::most_errors();
+    understated::drawn_line();
+    understated::full_line();
+    understated::every_line();
+    understated::refusals();
     longest::all();
+    longest::with_errors();
     example::draws();
     example::interval();
     example::projections();

@@ -73,7 +73,7 @@ pub fn widest_intervals() {
 
 pub fn most_errors() {
     let ledger = [10u64; 64];
-    let errors = [1u64; 64];
+    let errors = [1i64; 64];
     found(calls::judge(90, &ledger[..63], 63, 0, &errors[..63], 100));
     found(calls::judge(90, &ledger, 64, 0, &errors, 100));
     found(calls::project(&ledger, 64, 0, &errors));

@@ -33,12 +33,12 @@ fn add(a: u64, b: u64) -> u64 {
 }
 
 // The error of a line, where it is drawn or full.
-fn entered(mark: u8, error: u64) -> u64 {
+fn entered(mark: u8, error: i64) -> i64 {
     if mark == 0 { 0 } else { error }
 }
 
 // The projection at a start, with the true errors entered for the lines drawn and 0 elsewhere.
-fn projected(ledger: &[u64; 4], n: u64, start: u64, errors: &[u64; 4]) -> u64 {
+fn projected(ledger: &[u64; 4], n: u64, start: u64, errors: &[i64; 4]) -> u64 {
     let mut marks = [0u8; 4];
     calls::draw(ledger, n, start, &mut marks);
     let found = [
@@ -53,7 +53,7 @@ fn projected(ledger: &[u64; 4], n: u64, start: u64, errors: &[u64; 4]) -> u64 {
 }
 
 // The projections of all starts below an interval, added.
-pub fn projected_over_starts(ledger: &[u64; 4], n: u64, interval: u64, errors: &[u64; 4]) -> u64 {
+pub fn projected_over_starts(ledger: &[u64; 4], n: u64, interval: u64, errors: &[i64; 4]) -> u64 {
     let mut sum: u64 = 0;
     let mut start: u64 = 0;
     while start < interval {

@@ -30,8 +30,8 @@ amount-none J v e some z =
     omega (arith, amount-is J v e)
 
 -- as the wide product gives it
-pub amount-wide : (J v e : ℕ) → divUp (J * e) v ≡ amount J v e
-amount-wide J v e = ap (λ (x : ℕ). divUp x v) (mul-comm J e) ∙ sym (amount-is J v e)
+pub amount-wide : (J v e a : ℕ) → a ≡ divUp (J * e) v → a ≡ amount J v e
+amount-wide J v e a is = is ∙ ap (λ (x : ℕ). divUp x v) (mul-comm J e) ∙ sym (amount-is J v e)
 
 -- at an interval of 32 bits what is divided fits 64
 module _ (J v e : ℕ) (small : v ≤ J) (within : e ≤ v) (narrow : J < 4294967296) where

@@ -55,14 +55,18 @@ module _ (item : ℕ) (l : Line) where
   -- a line that passes
   pub record Sound : Type 0 where
     pub within : l .error ≤ l .value
+    pub fine : misplaced (l .state) (l .error) ≡ false
     pub passes : checkedLine item l ≡ accepted l
+
+  pub is-sound : l .error ≤ l .value → misplaced (l .state) (l .error) ≡ false → Sound
+  is-sound within fine = record { within = within; fine = fine; passes = by-state item l l refl within (l .state) false refl fine }
 
   pub checked-sound : (k : Line) → checkedLine item l ≡ accepted k → Sound
   unfolding checkedLine
   checked-sound k e =
       by-test (λ o. o ≡ accepted k → checkedLine item l ≡ o → Sound) (ltb (l .value) (l .error)) (λ p w. never w)
       (λ p. by-test (λ o. o ≡ accepted k → checkedLine item l ≡ o → Sound) (misplaced (l .state) (l .error)) (λ q w. never w)
-      (λ q w s. record { within = ltb-false _ _ p; passes = s })) e refl
+      (λ q w s. record { within = ltb-false _ _ p; fine = q; passes = s })) e refl
 
 -- all lines
 pub checked-none : (item : ℕ) → checkedFrom item [] ≡ accepted []
@@ -77,7 +81,7 @@ checked-more item l ls = refl
 -- lines that pass, after one that does
 pub checked-before : (item : ℕ) (l : Line) (ls : List Line) → l .error ≤ l .value → misplaced (l .state) (l .error) ≡ false → checkedFrom (suc item) ls ≡ accepted ls →
     checkedFrom item (l ∷ ls) ≡ accepted (l ∷ ls)
-checked-before item l ls small fine rest = checked-more item l ls ∙ rw (by-state item l l refl small (l .state) false refl fine, rest)
+checked-before item l ls small fine rest = checked-more item l ls ∙ rw (is-sound item l small fine .passes, rest)
 
 -- the first of lines that pass is sound, and the others pass; what passes are the lines themselves
 pub record Checked (item : ℕ) (l : Line) (ls : List Line) : Type 0 where

@@ -1,6 +1,6 @@
 -- The amounts that are kept: one line's, as `keep` meets it, and those of all lines, which stand in front, sorted, where there was room.
 -- Assumes nothing.
-use Prim.Native.Nat.{ℕ, suc, _+_, _≤_, _<_}
+use Prim.Native.Nat.{ℕ, suc, _+_, _≤_, _<_, zero-le}
 use native.Mathlib.Nat.{add-zero, zero-add}
 use native.Mathlib.Numerals.{add-one}
 use native.Mathlib.Omega.{arith}
@@ -9,18 +9,23 @@ use mathlib.Core.Bool.{Bool, true, false}
 use mathlib.Core.List.{List, [], _∷_}
 use borrow.Author.Tests.{lt-ltb, le-ltb}
 use lib.Dec.{ltb}
+use lib.IntN.{ℤ}
 use lib.ListN.{length, take}
+use lib.Seq.{take-all}
 use Rattle.terms.specs.Outcome.{accepted}
 use Rattle.terms.specs.Numbers.{pick}
 use Rattle.terms.proofs.Tests.{by-test}
 use Rattle.sorting.specs.Sorting.{sortOnto, sortDown, Sorted, placed}
 use Rattle.sorting.proofs.Sorted.{onto-none, onto-more, sort-is, placed-front, placed-length, placed-sorted}
+use Rattle.signed.specs.declared.Part.the-variants.{Overstated, Size}
+use Rattle.signed.specs.Parts.{parts}
 use Rattle.project.specs.declared.State.{State}
 use Rattle.project.specs.declared.State.the-variants.{NotDrawn, Drawn, Full}
 use Rattle.project.specs.declared.Line.{Line}
-use Rattle.project.specs.Lines.{linesOf, countPart, amountBefore, amountsOf}
-use Rattle.project.specs.Project.{checkedFrom, checkedLines}
-use Rattle.project.specs.Gather.{keptBy, keptFrom, keptOf}
+use Rattle.project.specs.Lines.{countPart, amountBefore, amountsOf}
+use Rattle.project.specs.Project.{checkedFrom, checkedLines, linesWith}
+use Rattle.project.specs.Gather.{keptBy, keptFrom, passed, keptOf}
+use Rattle.project.proofs.Lines.{lines-length}
 use Rattle.project.proofs.Checking.{checked-rest, checked-same}
 
 -- one line, as `keep` meets it
@@ -41,7 +46,13 @@ module _ (amounts : List ℕ) (m : ℕ) (s : State) (e : ℕ) where
   unfolding keptBy
   kept-full q = rw q refl
 
--- the list keeps its length
+-- a line without an error leaves the list,
+pub kept-none : (amounts : List ℕ) (m : ℕ) (s : State) → keptBy amounts m s 0 ≡ amounts
+kept-none amounts m NotDrawn = sym (kept-not-drawn amounts m NotDrawn 0 refl)
+kept-none amounts m (Drawn a) = sym (kept-no-error amounts m (Drawn a) 0 a refl zero-le)
+kept-none amounts m Full = sym (kept-full amounts m Full 0 refl)
+
+-- every line leaves its length,
 pub kept-length : (amounts : List ℕ) (m : ℕ) (s : State) (e : ℕ) → length (keptBy amounts m s e) ≡ length amounts
 unfolding keptBy
 kept-length amounts m NotDrawn e = refl
@@ -84,20 +95,31 @@ module _ (more : ℕ → List ℕ → List ℕ) (own : List ℕ) (on : (m : ℕ)
   front-line (Drawn a) e = front-drawn a (ltb 0 e)
   front-line Full e = front-none
 
-kept-front : (item : ℕ) (ls : List Line) → checkedFrom item ls ≡ accepted ls → (m : ℕ) (amounts : List ℕ) → Front (keptFrom item ls) (amountsOf ls) m amounts
+kept-front : (ls : List Line) (m : ℕ) (amounts : List ℕ) → Front (keptFrom ls) (amountsOf ls) m amounts
 unfolding keptFrom amountsOf
-kept-front item [] e m amounts room = rw add-zero (sym (onto-none (take m amounts)))
-kept-front item (l ∷ ls) e m amounts room =
+kept-front [] m amounts room = rw add-zero (sym (onto-none (take m amounts)))
+kept-front (l ∷ ls) m amounts room = front-line (keptFrom ls) (amountsOf ls) (kept-front ls) m amounts (l .state) (l .error) room
+
+-- where no line is refused, all pass
+passed-all : (item : ℕ) (ls : List Line) → checkedFrom item ls ≡ accepted ls → passed item ls ≡ length ls
+unfolding passed
+passed-all item [] e = refl
+passed-all item (l ∷ ls) e =
     let c = checked-rest item l ls (l ∷ ls) e in
-    rw (c .sound .passes) (front-line (keptFrom (suc item) ls) (amountsOf ls) (kept-front (suc item) ls (c .rest)) m amounts (l .state) (l .error) room)
+    rw (c .sound .passes) (ap suc (passed-all (suc item) ls (c .rest)))
 
--- where all lines pass and there is room, the amounts stand in front, sorted
-module _ (item J start : ℕ) (ledger errors amounts : List ℕ) where
+-- and where there is room, the overstated amounts stand in front, sorted
+module _ (item J start : ℕ) (ledger : List ℕ) (errors : List ℤ) (amounts : List ℕ) where
   abbrev own : List ℕ
-  own = amountsOf (linesOf J start ledger errors)
+  own = amountsOf (linesWith Overstated J start ledger errors)
 
-  pub kept-amounts : (good : List Line) → checkedLines item J start ledger errors ≡ accepted good → length own ≤ length amounts →
+  pub kept-amounts : (good : List Line) → checkedLines item J start ledger (parts Size errors) ≡ accepted good → length own ≤ length amounts →
       take (length own) (keptOf item J start ledger errors amounts) ≡ sortDown own
   unfolding keptOf checkedLines
   kept-amounts good e room =
-      rw zero-add at (kept-front item (linesOf J start ledger errors) (checked-same item (linesOf J start ledger errors) good e) 0 amounts (omega arith)) ∙ sym (sort-is own)
+      let sizes : List Line = linesWith Size J start ledger errors in
+      let overs : List Line = linesWith Overstated J start ledger errors in
+      let all : passed item sizes ≡ length sizes = passed-all item sizes (checked-same item sizes good e) in
+      let whole : take (passed item sizes) overs ≡ overs =
+      take-all (passed item sizes) overs (omega (arith, all, lines-length J start ledger (parts Size errors), lines-length J start ledger (parts Overstated errors))) in
+      ap (λ (ls : List Line). take (length own) (keptFrom ls 0 amounts)) whole ∙ rw zero-add at (kept-front overs 0 amounts (omega arith)) ∙ sym (sort-is own)

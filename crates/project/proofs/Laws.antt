@@ -5,6 +5,7 @@ use mathlib.Core.Bool.{Bool, true, false}
 use mathlib.Core.List.{List, [], _∷_, _++_, map}
 use Prim.Native.Nat.{ℕ, _+_, _≤_}
 use native.Mathlib.Omega.{arith}
+use lib.IntN.{ℤ, pos}
 use lib.ListN.{length, getD, drop}
 use Rattle.terms.specs.declared.Refusal.{Refusal}
 use Rattle.terms.specs.Outcome.{Outcome, accepted, refused, after}
@@ -15,6 +16,10 @@ use Rattle.split.specs.declared.SplitAnswer.{SplitAnswer}
 use Rattle.split.specs.Split.{splitSays}
 use Rattle.split.specs.Start.{figuresFor, FiguresForPromise}
 use Rattle.split.proofs.Start.{StartFacts, start-facts, figuresNumbers, figures-give}
+use Rattle.signed.specs.declared.Part.{Part}
+use Rattle.signed.specs.declared.Part.the-variants.{Overstated, Understated, Size}
+use Rattle.signed.specs.Parts.{parts}
+use Rattle.signed.proofs.Laws.{part-most, part-is-size, parts-at}
 use Rattle.draw.specs.Points.{covers}
 use Rattle.draw.specs.Row.{full, cents, marksFrom, drawMarks}
 use Rattle.draw.proofs.Laws.{draw-marks, row-figures}
@@ -24,10 +29,12 @@ use Rattle.project.specs.declared.Line.{Line}
 use Rattle.project.specs.declared.Projection.{Projection}
 use Rattle.project.specs.declared.ProjectAnswer.{ProjectAnswer}
 use Rattle.project.specs.declared.ProjectAnswer.the-variants.{Refused}
-use Rattle.project.specs.Lines.{amount, stateBy, linesFrom, linesOf, projectionOf}
-use Rattle.project.specs.Project.{checkedFrom, checkedLines, projectionAt, projectedBy, projectOf, ProjectPromise, Ready}
+use Rattle.project.specs.Lines.{amount, stateBy, linesFrom, linesOf}
+use Rattle.project.specs.Project.{checkedFrom, checkedLines, linesWith, bothKinds, projectionAt, projectedBy, projectOf, ProjectPromise, Ready}
 use Rattle.project.specs.Gather.{GatherPromise}
+use Rattle.project.proofs.Lines.{lines-walked}
 use Rattle.project.proofs.Checking.{checked-same, lineNumbers, checked-gives}
+use Rattle.project.proofs.Less.{less-pass}
 use Rattle.project.proofs.Facts.{LinesFacts, lines-facts}
 
 -- at an interval and a start
@@ -45,32 +52,53 @@ module _ (item J start : ℕ) (ledger errors : List ℕ) where
   unfolding checkedLines
   checked-give = checked-gives item (linesOf J start ledger errors)
 
-  -- the projection follows from the lines' outcome
-  pub projection-by : {o : Outcome (List Line)} → checkedLines item J start ledger errors ≡ o → projectionAt item J start ledger errors ≡ after (λ lines. accepted (projectionOf lines)) o
-  unfolding projectionAt
-  projection-by e = ap (after (λ lines. accepted (projectionOf lines))) e
+-- smaller errors pass where larger ones do
+pub less-checked : (item J start : ℕ) (ledger es fs : List ℕ) → ((i : ℕ) → getD es i 0 ≤ getD fs i 0) → (good : List Line) → checkedLines item J start ledger fs ≡ accepted good →
+    checkedLines item J start ledger es ≡ accepted (linesOf J start ledger es)
+unfolding checkedLines
+less-checked item J start ledger es fs less good e =
+    let walked : (errors : List ℕ) → linesOf J start ledger errors ≡ _ = lines-walked J start ledger in
+    ap (checkedFrom item) (walked es) ∙ less-pass J start item ledger es fs less good (sym (ap (checkedFrom item) (walked fs)) ∙ e) ∙ ap accepted (sym (walked es))
 
-  pub projection-refused : {n p : ℕ} → refused n p ≡ projectionAt item J start ledger errors → checkedLines item J start ledger errors ≡ refused n p
+-- both kinds, at an interval and a start
+module _ (item J start : ℕ) (ledger : List ℕ) (errors : List ℤ) where
+  -- the projection follows from the outcome of the sizes
+  pub projection-by : {o : Outcome (List Line)} → checkedLines item J start ledger (parts Size errors) ≡ o → projectionAt item J start ledger errors ≡ after (λ lines. accepted (bothKinds J start ledger errors)) o
   unfolding projectionAt
-  projection-refused e = refused-first projectionOf (checkedLines item J start ledger errors) e
+  projection-by e = ap (after (λ lines. accepted (bothKinds J start ledger errors))) e
 
-  -- what an accepted projection gives
+  pub projection-refused : {n p : ℕ} → refused n p ≡ projectionAt item J start ledger errors → checkedLines item J start ledger (parts Size errors) ≡ refused n p
+  unfolding projectionAt
+  projection-refused e = refused-first (λ lines. bothKinds J start ledger errors) (checkedLines item J start ledger (parts Size errors)) e
+
+  -- where the sizes pass, each part does
+  pub parts-checked : (good : List Line) → checkedLines item J start ledger (parts Size errors) ≡ accepted good → (part : Part) →
+      checkedLines item J start ledger (parts part errors) ≡ accepted (linesWith part J start ledger errors)
+  parts-checked good e part =
+      less-checked item J start ledger (parts part errors) (parts Size errors)
+      (λ i. omega (arith, parts-at part errors i, parts-at Size errors i, part-most part (getD errors i (pos 0)), part-is-size (getD errors i (pos 0)))) good e
+
+  -- what an accepted projection gives, of each part of the errors
   pub record ProjectedFacts (p : Projection) : Type 0 where
-    pub lines : checkedLines item J start ledger errors ≡ accepted (linesOf J start ledger errors)
-    pub answer : p ≡ projectionOf (linesOf J start ledger errors)
-    pub facts : LinesFacts J start ledger errors (linesOf J start ledger errors)
+    pub lines : (part : Part) → checkedLines item J start ledger (parts part errors) ≡ accepted (linesWith part J start ledger errors)
+    pub answer : p ≡ bothKinds J start ledger errors
+    pub facts : (part : Part) → LinesFacts J start ledger (parts part errors) (linesWith part J start ledger errors)
 
   pub projected-facts : (p : Projection) → start ≤ J → projectionAt item J start ledger errors ≡ accepted p → ProjectedFacts p
   unfolding projectionAt
   projected-facts p early e =
-      let a = after-accepted (λ lines. accepted (projectionOf lines)) (checkedLines item J start ledger errors) p e in
-      let lines = checked-lines (a .0) (a .1) in
-      let same : linesOf J start ledger errors ≡ a .0 = let w = sym lines ∙ a .1 in cc in
-      let answer : p ≡ projectionOf (linesOf J start ledger errors) = let w = a .2 in cc in
-      record { lines = lines; answer = answer; facts = lines-facts item J start ledger errors (a .0) early (a .1) }
+      let a = after-accepted (λ lines. accepted (bothKinds J start ledger errors)) (checkedLines item J start ledger (parts Size errors)) p e in
+      let lines = parts-checked (a .0) (a .1) in
+      let answer : p ≡ bothKinds J start ledger errors = let w = a .2 in cc in
+      record { lines = lines; answer = answer; facts = λ part. lines-facts item J start ledger (parts part errors) _ early (lines part) }
+
+-- the most that the sums of a kind come to
+pub record SumsMost (ledger : List ℕ) (figures : Figures) (full-sum sampled-sum : ℕ) : Type 0 where
+  pub full : full-sum ≤ sum ledger
+  pub sampled : sampled-sum ≤ figures .«sampled_total» + figures .interval
 
 -- from the figures for a start, as `project` meets them
-module _ (ledger : List ℕ) (n start : ℕ) (errors : List ℕ) where
+module _ (ledger : List ℕ) (n start : ℕ) (errors : List ℤ) where
   pub ready : (f : Figures) → figuresFor ledger n start (length errors) ≡ accepted f → Ready 0 (f .interval) start ledger errors
   ready f e =
       let s = start-facts ledger n start (length errors) f e in
@@ -101,8 +129,8 @@ module _ (ledger : List ℕ) (n start : ℕ) (errors : List ℕ) where
     pub figures : Figures
     pub started : StartFacts ledger n start (length errors) figures
     pub projected : ProjectedFacts 0 (figures .interval) start ledger errors p
-    pub sampled-most : p .sampled ≤ figures .«sampled_total» + figures .interval
-    pub full-most : p .full ≤ sum ledger
+    pub over : SumsMost ledger figures (p .full) (p .sampled)
+    pub under : SumsMost ledger figures (p .«under_full») (p .«under_sampled»)
     pub m-most : p .m ≤ length ledger
 
   pub project-facts : (p : Projection) → projectOf ledger n start errors ≡ accepted p → ProjectFacts p
@@ -112,26 +140,41 @@ module _ (ledger : List ℕ) (n start : ℕ) (errors : List ℕ) where
       let f : Figures = a .0 in
       let s = start-facts ledger n start (length errors) f (a .1) in
       let at = projected-facts 0 (f .interval) start ledger errors p (s .early) (a .2) in
+      let row = row-figures (s .facts) in
+      let same = at .answer in
       record {
         figures = f;
         started = s;
         projected = at;
-        sampled-most = omega (arith, ap (λ (q : Projection). q .sampled) (at .answer), at .facts .sampled-most, row-figures (s .facts));
-        full-most = omega (arith, ap (λ (q : Projection). q .full) (at .answer), at .facts .full-most);
-        m-most = omega (arith, ap (λ (q : Projection). q .m) (at .answer), at .facts .m-most);
+        over = record {
+          full = omega (arith, ap (λ (q : Projection). q .full) same, at .facts Overstated .full-most);
+          sampled = omega (arith, ap (λ (q : Projection). q .sampled) same, at .facts Overstated .sampled-most, row);
+        };
+        under = record {
+          full = omega (arith, ap (λ (q : Projection). q .«under_full») same, at .facts Understated .full-most);
+          sampled = omega (arith, ap (λ (q : Projection). q .«under_sampled») same, at .facts Understated .sampled-most, row);
+        };
+        m-most = omega (arith, ap (λ (q : Projection). q .m) same, at .facts Overstated .m-most);
       }
 
 -- the refusals that the projection gives
+pub projection-gives : (item J start : ℕ) (ledger : List ℕ) (errors : List ℤ) → Gives lineNumbers (projectionAt item J start ledger errors)
+unfolding projectionAt
+projection-gives item J start ledger errors =
+    gives-after lineNumbers (λ lines. accepted (bothKinds J start ledger errors)) (checkedLines item J start ledger (parts Size errors)) (checked-give item J start ledger (parts Size errors)) (λ lines. tt)
+
 abbrev pub projectNumbers : List ℕ
 projectNumbers = figuresNumbers ++ lineNumbers
 
-pub project-gives : (ledger : List ℕ) (n start : ℕ) (errors : List ℕ) → Gives projectNumbers (projectOf ledger n start errors)
-unfolding projectOf projectionAt
-project-gives ledger n start errors =
-    gives-after projectNumbers (projectedBy ledger start errors) (figuresFor ledger n start (length errors))
-    (gives-among figuresNumbers projectNumbers tt (figuresFor ledger n start (length errors)) (figures-give ledger n start (length errors)))
-    (λ f. gives-after projectNumbers (λ lines. accepted (projectionOf lines)) (checkedLines 0 (f .interval) start ledger errors)
-    (gives-among lineNumbers projectNumbers tt (checkedLines 0 (f .interval) start ledger errors) (checked-give 0 (f .interval) start ledger errors)) (λ lines. tt))
+pub projected-gives : (ledger : List ℕ) (n start : ℕ) (errors : List ℤ) (beside : ℕ) → Gives projectNumbers (after (projectedBy ledger start errors) (figuresFor ledger n start beside))
+projected-gives ledger n start errors beside =
+    gives-after projectNumbers (projectedBy ledger start errors) (figuresFor ledger n start beside)
+    (gives-among figuresNumbers projectNumbers tt (figuresFor ledger n start beside) (figures-give ledger n start beside))
+    (λ f. gives-among lineNumbers projectNumbers tt (projectionAt 0 (f .interval) start ledger errors) (projection-gives 0 (f .interval) start ledger errors))
+
+pub project-gives : (ledger : List ℕ) (n start : ℕ) (errors : List ℤ) → Gives projectNumbers (projectOf ledger n start errors)
+unfolding projectOf
+project-gives ledger n start errors = projected-gives ledger n start errors (length errors)
 
 -- a line's state and its mark
 abbrev pub markOf : State → ℕ

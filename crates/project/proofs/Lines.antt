@@ -1,8 +1,8 @@
 -- The lines and their totals, clause by clause; and the walk by distances, which gives the lines of the row. Assumes nothing.
-use Prim.Native.Nat.{ℕ, _+_, _≤_, _<_}
+use Prim.Native.Nat.{ℕ, suc, _+_, _≤_, _<_}
 use native.Mathlib.Nat.{add-zero}
 use native.Mathlib.Numerals.{add-one}
-use mathlib.Core.Path.{_≡_, refl}
+use mathlib.Core.Path.{_≡_, refl, ap}
 use mathlib.Core.List.{List, [], _∷_}
 use lib.ListN.{length, getD, drop, drop-of-length-le}
 use lib.Seq.{drop-cons, getD-drop, drop-drop}
@@ -72,3 +72,13 @@ module _ (J next : ℕ) where
   pub walk-end : (ledger errors : List ℕ) (item : ℕ) → length ledger ≤ item → linesWalk J next (drop item ledger) errors ≡ []
   unfolding linesWalk
   walk-end ledger errors item h = rw (drop-of-length-le ledger h)
+
+-- there is a line for each value
+from-length : (J start first : ℕ) (ledger errors : List ℕ) → length (linesFrom J start first ledger errors) ≡ length ledger
+unfolding linesFrom
+from-length J start first [] errors = refl
+from-length J start first (v ∷ vs) errors = ap suc (from-length J start (first + cents J v) vs (drop 1 errors))
+
+pub lines-length : (J start : ℕ) (ledger errors : List ℕ) → length (linesOf J start ledger errors) ≡ length ledger
+unfolding linesOf
+lines-length J start ledger errors = from-length J start 0 ledger errors

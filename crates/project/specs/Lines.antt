@@ -1,4 +1,4 @@
--- The lines of a ledger at an interval J and a start, each with its error and its state, and what they add up to. Definitions: nothing is assumed.
+-- The lines of a ledger at an interval J and a start, each with one part of its error and its state, and what they add up to. Definitions: nothing is assumed.
 use Prim.Native.Nat.{ℕ, _+_, _*_}
 use mathlib.Core.Bool.{Bool}
 use mathlib.Core.List.{List, [], _∷_}
@@ -7,7 +7,7 @@ use lib.ListN.{getD, drop}
 use Rattle.terms.specs.Numbers.{pick, divUp}
 use Rattle.draw.specs.Points.{covers}
 use Rattle.draw.specs.Row.{full, cents}
-use Rattle.project.specs.declared.{State.State, Line.Line, Projection.Projection}
+use Rattle.project.specs.declared.{State.State, Line.Line, Sums.Sums}
 
 -- the projected amount of a drawn line: error × J / value, rounded up
 unfoldable pub amount : ℕ → ℕ → ℕ → ℕ
@@ -52,9 +52,9 @@ unfoldable pub total : (State → ℕ → ℕ) → List Line → ℕ
 total part [] = 0
 total part (line ∷ later) = part (line .state) (line .error) + total part later
 
--- the answer: both sums, and m
-abbrev pub projectionOf : List Line → Projection
-projectionOf lines = record { full = total fullPart lines; sampled = total sampledPart lines; m = total countPart lines }
+-- both sums, and m
+abbrev pub sumsOf : List Line → Sums
+sumsOf lines = record { full = total fullPart lines; sampled = total sampledPart lines; m = total countPart lines }
 
 -- the amounts of the drawn lines with an error above 0, in ledger order, before further ones
 abbrev pub amountBefore : State → ℕ → List ℕ → List ℕ

@@ -4,14 +4,18 @@ use mathlib.Core.Path.{_≡_}
 use mathlib.Core.Bool.{Bool, false}
 use mathlib.Core.List.{List, [], _∷_}
 use lib.Dec.{ltb}
+use lib.IntN.{ℤ, pos, _-ℤ_}
 use lib.ListN.{length}
 use Rattle.terms.specs.Outcome.{Outcome, accepted, refused, refusedBy, after}
 use Rattle.terms.specs.Numbers.{pick, sum}
 use Rattle.terms.specs.Limits.{mostLines, mostTotal, mostInterval}
 use Rattle.split.specs.declared.Figures.{Figures}
 use Rattle.split.specs.Start.{figuresFor}
-use Rattle.project.specs.declared.{State.State, Line.Line, LineAnswer.LineAnswer, Projection.Projection, ProjectAnswer.ProjectAnswer}
-use Rattle.project.specs.Lines.{linesOf, projectionOf}
+use Rattle.signed.specs.declared.Part.{Part}
+use Rattle.signed.specs.declared.Part.the-variants.{Overstated, Understated, Size}
+use Rattle.signed.specs.Parts.{parts}
+use Rattle.project.specs.declared.{State.State, Line.Line, LineAnswer.LineAnswer, Sums.Sums, Projection.Projection, ProjectAnswer.ProjectAnswer}
+use Rattle.project.specs.Lines.{linesOf, sumsOf}
 
 -- what the answers say
 abbrev pub lineSays : LineAnswer → Outcome Line
@@ -22,7 +26,7 @@ abbrev pub projectSays : ProjectAnswer → Outcome Projection
 projectSays (ProjectAnswer.Projected projection) = accepted projection
 projectSays (ProjectAnswer.Refused why) = refusedBy why
 
--- an error above 0 on a line that is not drawn and not full
+-- an error other than 0 on a line that is not drawn and not full
 abbrev pub misplaced : State → ℕ → Bool
 misplaced State.NotDrawn error = ltb 0 error
 misplaced (State.Drawn projected) error = false
@@ -43,24 +47,44 @@ checkedFrom item (line ∷ later) =
 unfoldable pub checkedLines : ℕ → ℕ → ℕ → List ℕ → List ℕ → Outcome (List Line)
 checkedLines item J start ledger errors = checkedFrom item (linesOf J start ledger errors)
 
--- the projection at an interval and a start
-unfoldable pub projectionAt : ℕ → ℕ → ℕ → List ℕ → List ℕ → Outcome Projection
-projectionAt item J start ledger errors = after (λ lines. accepted (projectionOf lines)) (checkedLines item J start ledger errors)
+-- the lines with one part of each error
+abbrev pub linesWith : Part → ℕ → ℕ → List ℕ → List ℤ → List Line
+linesWith part J start ledger errors = linesOf J start ledger (parts part errors)
+
+-- the answer, from the sums of each kind: the net is what is overstated less what is understated
+abbrev pub projectionOf : Sums → Sums → Projection
+projectionOf over under =
+    record {
+      full = over .full;
+      sampled = over .sampled;
+      m = over .m;
+      «under_full» = under .full;
+      «under_sampled» = under .sampled;
+      net = pos (over .full + over .sampled) -ℤ pos (under .full + under .sampled);
+    }
+
+-- each kind by itself
+abbrev pub bothKinds : ℕ → ℕ → List ℕ → List ℤ → Projection
+bothKinds J start ledger errors = projectionOf (sumsOf (linesWith Overstated J start ledger errors)) (sumsOf (linesWith Understated J start ledger errors))
+
+-- the projection at an interval and a start, where no error breaks a rule: these go by its size
+unfoldable pub projectionAt : ℕ → ℕ → ℕ → List ℕ → List ℤ → Outcome Projection
+projectionAt item J start ledger errors = after (λ lines. accepted (bothKinds J start ledger errors)) (checkedLines item J start ledger (parts Size errors))
 
 -- at the final interval, of a whole ledger
-abbrev pub projectedBy : List ℕ → ℕ → List ℕ → Figures → Outcome Projection
+abbrev pub projectedBy : List ℕ → ℕ → List ℤ → Figures → Outcome Projection
 projectedBy ledger start errors figures = projectionAt 0 (figures .interval) start ledger errors
 
 -- the projection, after the refusals of the draw: the errors stand beside the ledger
-unfoldable pub projectOf : List ℕ → ℕ → ℕ → List ℕ → Outcome Projection
+unfoldable pub projectOf : List ℕ → ℕ → ℕ → List ℤ → Outcome Projection
 projectOf ledger n start errors = after (projectedBy ledger start errors) (figuresFor ledger n start (length errors))
 
 -- what `project` promises
-pub record ProjectPromise (ledger : List ℕ) (n start : ℕ) (errors : List ℕ) (r : ProjectAnswer) : Type 0 where
+pub record ProjectPromise (ledger : List ℕ) (n start : ℕ) (errors : List ℤ) (r : ProjectAnswer) : Type 0 where
   pub answer : projectSays r ≡ projectOf ledger n start errors
 
 -- what the walk along the lines starts from
-pub record Ready (item J start : ℕ) (ledger errors : List ℕ) : Type 0 where
+pub record Ready (item J start : ℕ) (ledger : List ℕ) (errors : List ℤ) : Type 0 where
   pub few : item + length ledger ≤ mostLines
   pub same : length errors ≡ length ledger
   pub narrow : J ≤ mostInterval

@@ -1,4 +1,8 @@
-// The projection of the errors that were found: step 5.
+// The projection of the errors that were found, each kind by itself: step 5.
+mod passing; // passing.rt: one line after another
+
+use crate::passing::pass_line;
+use crate::passing::projection_of;
 use split::SplitAnswer;
 use terms::Cent;
 use terms::Item;
@@ -6,12 +10,10 @@ use terms::Refusal;
 use walk::Ahead;
 ghost use mathlib.Core.Path.{_≡_};
 ghost use Prim.Native.Nat.{_<_, _≤_};
-ghost use lib.ListN.{take};
 ghost use Rattle.terms.specs.Limits.{mostInterval};
-ghost use Rattle.sorting.specs.Sorting.{Sorted};
 ghost use Rattle.project.specs.Lines.{amount};
 ghost use Rattle.project.specs.Project.{lineSays, checkedLine, Ready, ProjectPromise};
-ghost use Rattle.project.specs.Gather.{lineAt, addedTo, Fits, keptBy, Room, PassPromise, GatherPromise};
+ghost use Rattle.project.specs.Gather.{lineAt, GatherPromise};
 
 // What a line ends as; a drawn line carries its projected amount.
 pub enum State {
@@ -20,7 +22,7 @@ pub enum State {
     Full,
 }
 
-// A line of the ledger with the error that was entered for it and its state.
+// A line of the ledger with the size of the error that was entered for it, and its state.
 pub struct Line {
     pub value: u64,
     pub error: u64,
@@ -33,11 +35,21 @@ pub enum LineAnswer {
     Refused(Refusal),
 }
 
-// The full lines' errors, the drawn lines' amounts, and the number of drawn lines with an error above 0.
+// Of one kind of error: the full lines' errors, the drawn lines' amounts, and the number of drawn lines with an error.
+pub struct Sums {
+    pub full: u64,
+    pub sampled: u64,
+    pub m: u64,
+}
+
+// The sums of the overstatements and their m, those of the understatements as sizes, and the net with its sign.
 pub struct Projection {
     pub full: u64,
     pub sampled: u64,
     pub m: u64,
+    pub under_full: u64,
+    pub under_sampled: u64,
+    pub net: i64,
 }
 
 pub enum ProjectAnswer {
@@ -45,9 +57,10 @@ pub enum ProjectAnswer {
     Refused(Refusal),
 }
 
-// What goes from line to line: the sums so far, and the distance to the next drawing point.
+// What goes from line to line: the sums of each kind so far, and the distance to the next drawing point.
 struct Progress {
-    sums: Projection,
+    over: Sums,
+    under: Sums,
     next: Ahead,
 }
 
@@ -121,104 +134,27 @@ fn checked_line(item: Item, value: u64, error: u64, interval: u64, next: Ahead) 
     }
 }
 
-// The sums with one line added.
-fn added(sums: Projection, line: Line) -> Projection
-    requires { ⌜ Fits sums line ⌝ }
-    ensures { λ r. ⌜ r ≡ addedTo sums line ⌝ }
-{
-    let state = line.state;
-    match state {
-        State::NotDrawn => sums,
-        State::Drawn(amount) => {
-            let sampled = sums.sampled + amount;
-            if line.error > 0 {
-                let m = sums.m + 1;
-                Projection {
-                    full: sums.full,
-                    sampled,
-                    m,
-                }
-            } else {
-                Projection {
-                    full: sums.full,
-                    sampled,
-                    m: sums.m,
-                }
-            }
-        }
-        State::Full => {
-            let full = sums.full + line.error;
-            Projection {
-                full,
-                sampled: sums.sampled,
-                m: sums.m,
-            }
-        }
-    }
-}
-
-// Puts the amount of a drawn line with an error above 0 in its place among the m before it, which fall, while there is room.
-fn keep(amounts: &mut [u64], m: u64, line: Line)
-    requires { ⌜ Sorted (take m (now amounts)) ⌝ }
-    ensures { λ _. ⌜ now (amounts .exit) ≡ keptBy (now (amounts .entry)) m (line .state) (line .error) ⌝ }
-{
-    let state = line.state;
-    match state {
-        State::NotDrawn => {}
-        State::Drawn(amount) => {
-            if line.error > 0 {
-                sorting::insert_down(amounts, m as usize, amount);
-            }
-        }
-        State::Full => {}
-    }
-}
-
-// One line is passed: checked, added to the sums, its amount kept, and walked over.
-fn pass_line(
-    item: Item,
-    value: u64,
-    error: u64,
-    interval: u64,
-    at: Progress,
-    amounts: &mut [u64],
-) -> PassAnswer
-    requires { ⌜ Room interval value (at .sums) (now amounts) ⌝ }
-    ensures { λ r. ⌜ PassPromise (item .0) value error interval at (now (amounts .entry)) r (now (amounts .exit)) ⌝ }
-{
-    let before = at.sums;
-    let here = at.next;
-    match checked_line(item, value, error, interval, here) {
-        LineAnswer::Refused(why) => PassAnswer::Refused(why),
-        LineAnswer::Known(line) => {
-            let sums = added(before, line);
-            keep(amounts, before.m, line);
-            let next = walk::step_over(value, interval, here);
-            PassAnswer::Further(Progress { sums, next })
-        }
-    }
-}
-
-// Checks and adds the lines, one by one, the first of which has the number `first`, and puts each amount in its sorted place as it
-// arrives, while there is room.
+// Checks and adds the lines, one by one, the first of which has the number `first`, and puts each overstated line's amount in its
+// sorted place as it arrives, while there is room.
 pub fn gather(
     first: Item,
     ledger: &[u64],
     interval: u64,
     start: Cent,
-    errors: &[u64],
+    errors: &[i64],
     amounts: &mut [u64],
 ) -> ProjectAnswer
     requires { ⌜ Ready (first .0) interval (start .0) (now ledger) (now errors) ⌝ }
     ensures { λ r. ⌜ GatherPromise (first .0) interval (start .0) (now (ledger .entry)) (now (errors .entry)) (now (amounts .entry)) r (now (amounts .exit)) ⌝ }
 {
-    let none = Projection {
+    let none = Sums {
         full: 0,
         sampled: 0,
         m: 0,
     };
     let mut at = Progress {
-        sums: none,
+        over: none,
+        under: none,
         next: Ahead(start.0),
     };
     let mut line: usize = 0;
@@ -231,12 +167,14 @@ pub fn gather(
         }
         line += 1;
     }
-    let sums = at.sums;
-    ProjectAnswer::Projected(sums)
+    let over = at.over;
+    let under = at.under;
+    let projection = projection_of(over, under);
+    ProjectAnswer::Projected(projection)
 }
 
 // The projection of the errors that are entered for a ledger's lines, or the first refusal.
-pub fn project(ledger: &[u64], n: u64, start: u64, errors: &[u64]) -> ProjectAnswer
+pub fn project(ledger: &[u64], n: u64, start: u64, errors: &[i64]) -> ProjectAnswer
     ensures { λ r. ⌜ ProjectPromise (now (ledger .entry)) n start (now (errors .entry)) r ⌝ }
 {
     match split::figures_for(ledger, n, Cent(start), errors.len()) {

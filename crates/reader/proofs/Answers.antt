@@ -3,6 +3,7 @@ use Prim.Native.Nat.{ℕ, _<_, _≤_}
 use mathlib.Core.Path.{_≡_, refl, ap, sym, _∙_}
 use mathlib.Core.List.{List}
 use native.Mathlib.Omega.{arith}
+use lib.IntN.{ℤ}
 use lib.ListN.{length}
 use Rattle.terms.specs.Outcome.{Outcome, accepted, refused, refusedBy, left}
 use Rattle.terms.specs.declared.Refusal.{Refusal}
@@ -18,7 +19,7 @@ use Rattle.reader.specs.Steps.{checkOf, IsLegal, Stored}
 use Rattle.reader.specs.declared.Checked.{Checked}
 use Rattle.reader.specs.declared.Checked.the-variants.{Legal, Broken}
 
-module _ (f w v e : List ℕ) where
+module _ (f w v : List ℕ) (e : List ℤ) where
   refuse : (why : Refusal) → readOf f (length w) (length v) (length e) ≡ refusedBy why → ReadPromise f w v e (Refused why) w v e
   refuse why q = record {
     answer = sym (ap countsOf q);
@@ -43,7 +44,7 @@ module _ (f w v e : List ℕ) where
       go (accepted c) d q = let z : _≡_ {A = ℕ} 0 1 = cc in absurd (omega arith)
       go (refused n p) d q = let same : p ≡ at = cc in sym d ∙ refused-so f n p d ∙ ap (refused 17) same
 
-  pub read-file : {k : Contents} {w′ v′ e′ : List ℕ} → Rooms w v e → Stored f w v e k w′ v′ e′ → ReadPromise f w v e (Read k) w′ v′ e′
+  pub read-file : {k : Contents} {w′ v′ : List ℕ} {e′ : List ℤ} → Rooms w v e → Stored f w v e k w′ v′ e′ → ReadPromise f w v e (Read k) w′ v′ e′
   read-file m s =
       let o = sym (roomy f w v e m) in
       record {

@@ -7,6 +7,7 @@ use mathlib.Core.List.{List}
 use native.Mathlib.Omega.{arith}
 use denote.Enum.Declared.{tagOf}
 use lib.Dec.{eqb}
+use lib.IntN.{ℤ}
 use lib.ListN.{length, getD, drop}
 use Rattle.terms.specs.Outcome.{accepted, refused, left}
 use Rattle.terms.specs.Numbers.{pick}
@@ -23,7 +24,7 @@ use Rattle.workfile.proofs.Rules.{rule, is-end}
 use Rattle.workfile.proofs.Growing.{plan-grow, counted-end}
 use Rattle.workfile.proofs.OneFile.{plan-there}
 use Rattle.workfile.proofs.Stopping.{breaks, ends}
-use Rattle.records.specs.Judging.{tallied, judged}
+use Rattle.records.specs.Judging.{tallied, Allowed, judged}
 use Rattle.records.specs.declared.Judged.{Judged}
 use Rattle.records.proofs.Judged.{the-type}
 use Rattle.records.specs.declared.Judged.the-variants.{Next, Last, Bad}
@@ -39,13 +40,16 @@ pub contents-of : (f : List ℕ) (t : Tally) {te ae : ℕ} → te ≡ littleEndi
 contents-of f t p q = λ i. record { level = getD f 1 0; te = p i; ae = q i; words = t .words; lines = t .lines }
 
 -- one step, from its parts
-pub stepped : {f : List ℕ} {at : ℕ} {t : Tally} {r : FileRecord} {j : Judged} {w v e w′ v′ e′ : List ℕ}
+pub stepped : {f : List ℕ} {at : ℕ} {t : Tally} {r : FileRecord} {j : Judged} {w v w′ v′ : List ℕ} {e e′ : List ℤ}
     → r ≡ recordAt f at → j ≡ judged t r → Put t r w v e w′ v′ e′ → Stepped f at t j w v e w′ v′ e′
-stepped {f} {at} {t} {r} {j} {w} {v} {e} {w′} {v′} {e′} is judgement put =
+stepped {f} {at} {t} {r} {j} {w} {v} {w′} {v′} {e} {e′} is judgement put =
     record { judgement = judgement ∙ ap (judged t) is; stored = subst (λ (x : FileRecord). Put t x w v e w′ v′ e′) is put }
 
-pub found-place : {t : Tally} {r x : FileRecord} {w v e : List ℕ} → r ≡ x → HasPlace t x w v e → HasPlace t r w v e
+pub found-place : {t : Tally} {r x : FileRecord} {w v : List ℕ} {e : List ℤ} → r ≡ x → HasPlace t x w v e → HasPlace t r w v e
 found-place {t} {w} {v} {e} is = subst (λ (x : FileRecord). HasPlace t x w v e) (sym is)
+
+pub found-allowed : {t : Tally} {r x : FileRecord} {w v : List ℕ} {e : List ℤ} → r ≡ x → HasPlace t x w v e → Allowed t r
+found-allowed {t} is place = record { rule = subst (Rule t) (sym is) (place .rule) }
 
 -- Z was last, since the file is legal
 closed-so : (b : Bool) (c : Content) (n : ℕ) (d : Content) → pick b (accepted c) (refused 17 n) ≡ accepted d → accepted c ≡ accepted d
@@ -53,7 +57,7 @@ closed-so true c n d e = e
 closed-so false c n d e = never e
 
 -- where the pass stands
-pub record Storing (f ws vs es : List ℕ) (at : ℕ) (t : Tally) (w v e : List ℕ) : Type 0 where
+pub record Storing (f ws vs : List ℕ) (es : List ℤ) (at : ℕ) (t : Tally) (w v : List ℕ) (e : List ℤ) : Type 0 where
   pub legal : IsLegal f
   pub rooms : Rooms ws vs es
   pub read : Content
@@ -64,10 +68,10 @@ pub record Storing (f ws vs es : List ℕ) (at : ℕ) (t : Tally) (w v e : List 
 pub plan-long : (f : List ℕ) → IsLegal f → 18 ≤ length f
 plan-long f a = plan-there f (a .0) (a .1) .1
 
-pub sets-out : {f ws vs es : List ℕ} → IsLegal f → Rooms ws vs es → Storing f ws vs es 18 (record { words = 0; lines = 0; sum = 0; «next_line» = 0 }) ws vs es
+pub sets-out : {f ws vs : List ℕ} {es : List ℤ} → IsLegal f → Rooms ws vs es → Storing f ws vs es 18 (record { words = 0; lines = 0; sum = 0; «next_line» = 0 }) ws vs es
 sets-out {f} a m = let p = plan-there f (a .0) (a .1) in record { legal = a; rooms = m; read = start (planOf f); plan = refl; stands = at-plan f (p .1) (p .0); kept = holds-none }
 
-module _ {f ws vs es : List ℕ} {at : ℕ} {t : Tally} {w v e : List ℕ} (s : Storing f ws vs es at t w v e) where
+module _ {f ws vs : List ℕ} {es : List ℤ} {at : ℕ} {t : Tally} {w v : List ℕ} {e : List ℤ} (s : Storing f ws vs es at t w v e) where
   abbrev r : FileRecord
   r = recordAt f at
 
@@ -88,7 +92,7 @@ module _ {f ws vs es : List ℕ} {at : ℕ} {t : Tally} {w v e : List ℕ} (s : 
   pub ready : HasPlace t (recordAt f at) w v e
   ready = has-place (s .kept) (s .rooms) its-rule
 
-  module _ {j : Judged} {w′ v′ e′ : List ℕ} (q : Stepped f at t j w v e w′ v′ e′) where
+  module _ {j : Judged} {w′ v′ : List ℕ} {e′ : List ℤ} (q : Stepped f at t j w v e w′ v′ e′) where
     held : Holds (grow c r) (tallied t r) ws vs es w′ v′ e′
     held = holds-more (s .kept) (s .rooms) its-rule (q .stored)
 

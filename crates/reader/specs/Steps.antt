@@ -3,6 +3,7 @@ use Prim.Native.Nat.{ℕ, _≤_}
 use mathlib.Core.Path.{_≡_}
 use mathlib.Core.Bool.{false}
 use mathlib.Core.List.{List}
+use lib.IntN.{ℤ}
 use lib.ListN.{length, getD}
 use Rattle.terms.specs.Outcome.{Outcome, accepted, refused, left}
 use Rattle.terms.specs.Numbers.{pick}
@@ -33,7 +34,7 @@ checkOf (accepted c) = Checked.Legal
 checkOf (refused n at) = Checked.Broken at
 
 -- the record at a place of a file, judged and stored
-pub record Stepped (f : List ℕ) (at : ℕ) (t : Tally) (j : Judged) (w v e w′ v′ e′ : List ℕ) : Type 0 where
+pub record Stepped (f : List ℕ) (at : ℕ) (t : Tally) (j : Judged) (w v : List ℕ) (e : List ℤ) (w′ v′ : List ℕ) (e′ : List ℤ) : Type 0 where
   pub judgement : j ≡ judged t (recordAt f at)
   pub stored : Put t (recordAt f at) w v e w′ v′ e′
 
@@ -44,7 +45,7 @@ abbrev pub IsLegal : List ℕ → Type 0
 IsLegal f = (c : Content) × (decode f ≡ accepted c)
 
 -- what the second pass leaves of a legal file
-pub record Stored (f w v e : List ℕ) (k : Contents) (w′ v′ e′ : List ℕ) : Type 0 where
+pub record Stored (f w v : List ℕ) (e : List ℤ) (k : Contents) (w′ v′ : List ℕ) (e′ : List ℤ) : Type 0 where
   pub answer : accepted k ≡ countsOf (decode f)
   pub words : w′ ≡ left (λ c. over (c .words) w) w (decode f)
   pub values : v′ ≡ left (λ c. over (c .values) v) v (decode f)

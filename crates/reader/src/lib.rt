@@ -105,7 +105,7 @@ fn check(file: &[u8]) -> Checked
 }
 
 // The content of a working file goes to the buffers; 18 before 17, and a refused call changes nothing.
-pub fn read(file: &[u8], words: &mut [u64], values: &mut [u64], errors: &mut [u64]) -> ReadAnswer
+pub fn read(file: &[u8], words: &mut [u64], values: &mut [u64], errors: &mut [i64]) -> ReadAnswer
     ensures { λ r. ⌜ ReadPromise (now (file .entry)) (now (words .entry)) (now (values .entry)) (now (errors .entry)) r (now (words .exit)) (now (values .exit)) (now (errors .exit)) ⌝ }
 {
     if words.len() < workfile::MOST_WORDS {

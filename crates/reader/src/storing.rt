@@ -17,13 +17,13 @@ fn step(
     tally: Tally,
     words: &mut [u64],
     values: &mut [u64],
-    errors: &mut [u64],
+    errors: &mut [i64],
 ) -> Judged
     requires { ⌜ (at ≤ length (now file)) × HasPlace tally (recordAt (now file) at) (now words) (now values) (now errors) ⌝ }
     ensures { λ r. ⌜ Stepped (now (file .entry)) at tally r (now (words .entry)) (now (values .entry)) (now (errors .entry)) (now (words .exit)) (now (values .exit)) (now (errors .exit)) ⌝ }
 {
     let found = records::record_at(file, at);
-    let judged = records::rules::judge(tally, found);
+    let judged = records::rules::take(tally, found);
     store::put_record(found, tally, words, values, errors);
     judged
 }
@@ -46,7 +46,7 @@ fn contents(file: &[u8], tally: Tally) -> Contents
 }
 
 // The whole pass; answers the plan and the counts.
-pub fn store(file: &[u8], words: &mut [u64], values: &mut [u64], errors: &mut [u64]) -> Contents
+pub fn store(file: &[u8], words: &mut [u64], values: &mut [u64], errors: &mut [i64]) -> Contents
     requires { ⌜ IsLegal (now file) × Rooms (now words) (now values) (now errors) ⌝ }
     ensures { λ r. ⌜ Stored (now (file .entry)) (now (words .entry)) (now (values .entry)) (now (errors .entry)) r (now (words .exit)) (now (values .exit)) (now (errors .exit)) ⌝ }
 {

@@ -6,6 +6,7 @@ use native.Mathlib.Omega.{arith}
 use lib.ListN.{length, length-append}
 use Rattle.terms.specs.Numbers.{sum}
 use Rattle.terms.proofs.Sums.{sum-append}
+use Rattle.signed.specs.Errors.{signedOf}
 use Rattle.workfile.specs.Content.{Content}
 use Rattle.workfile.specs.Decode.{tallyOf, grow, padTo}
 use Rattle.workfile.specs.Rules.{Rule}
@@ -24,9 +25,9 @@ tally-grow c (Value v) s h =
     let e : length (c .values ++ (v ∷ [])) ≡ length (c .values) + 1 = length-append (c .values) (v ∷ []) in
     let t : sum (c .values ++ (v ∷ [])) ≡ sum (c .values) + v = sum-append (c .values) (v ∷ []) ∙ omega arith in
     λ j. record { words = length (c .words); lines = e j; sum = t j; «next_line» = length (c .errors) }
-tally-grow c (ErrorOf l x) s h =
-    let e : length (padTo l (c .errors) ++ (x ∷ [])) ≡ l + 1 =
-    length-append (padTo l (c .errors)) (x ∷ []) ∙ ap (λ (n : ℕ). n + 1) (length-pad l (c .errors) (h .0)) in
+tally-grow c (ErrorOf u l n) s h =
+    let e : length (padTo l (c .errors) ++ (signedOf n u ∷ [])) ≡ l + 1 =
+    length-append (padTo l (c .errors)) (signedOf n u ∷ []) ∙ ap (λ (n : ℕ). n + 1) (length-pad l (c .errors) (h .0)) in
     λ j. record { words = length (c .words); lines = length (c .values); sum = sum (c .values); «next_line» = e j }
 tally-grow c (End n t) s h =
     let e : length (padTo n (c .errors)) ≡ n = length-pad n (c .errors) (omega (arith, h .0, s .sound)) in

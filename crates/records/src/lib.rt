@@ -38,7 +38,18 @@ pub fn record_at(file: &[u8], at: usize) -> FileRecord
         return FileRecord::Nothing;
     }
     if kind == 0x45 {
-        return FileRecord::ErrorOf(four_bytes(file, at + 1) as usize, eight_bytes(file, at + 5));
+        return FileRecord::ErrorOf(
+            false,
+            four_bytes(file, at + 1) as usize,
+            eight_bytes(file, at + 5),
+        );
+    }
+    if kind == 0x55 {
+        return FileRecord::ErrorOf(
+            true,
+            four_bytes(file, at + 1) as usize,
+            eight_bytes(file, at + 5),
+        );
     }
     if kind == 0x5A {
         return FileRecord::End(four_bytes(file, at + 1) as usize, eight_bytes(file, at + 5));

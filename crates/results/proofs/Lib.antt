@@ -1,3 +1,4 @@
 -- What the proofs of several functions use, and worked cases.
 pub mod Refused
+mod Shown
 pub mod Worked

@@ -7,7 +7,7 @@ use Rattle.project.specs.declared.Projection.{Projection}
 use Rattle.judge.specs.declared.{Judgement.Judgement, Verdict.Verdict}
 use Rattle.judge.specs.declared.Verdict.the-variants.{Below, Inconclusive, Above}
 use Rattle.workfile.specs.declared.Contents.{Contents}
-use Rattle.results.specs.Seen.{numberSeen, placeSeen, seen}
+use Rattle.results.specs.Seen.{numberSeen, placeSeen, seen, signedSeen}
 use Rattle.results.specs.declared.{SizeResult.SizeResult, SplitResult.SplitResult, StartResult.StartResult, DrawResult.DrawResult, ProjectResult.ProjectResult, JudgeResult.JudgeResult, ReadResult.ReadResult, WriteResult.WriteResult, SheetResult.SheetResult}
 
 abbrev pub sizeSeen : Outcome ℕ → SizeResult
@@ -32,7 +32,17 @@ abbrev pub drawSeen : Outcome ℕ → DrawResult
 drawSeen o = record { refusal = numberSeen o; place = placeSeen o; drawn = seen (λ drawn. drawn) o }
 
 abbrev pub projectSeen : Outcome Projection → ProjectResult
-projectSeen o = record { refusal = numberSeen o; place = placeSeen o; full = seen (λ p. p .full) o; sampled = seen (λ p. p .sampled) o; m = seen (λ p. p .m) o }
+projectSeen o =
+    record {
+      refusal = numberSeen o;
+      place = placeSeen o;
+      full = seen (λ p. p .full) o;
+      sampled = seen (λ p. p .sampled) o;
+      m = seen (λ p. p .m) o;
+      «under_full» = seen (λ p. p .«under_full») o;
+      «under_sampled» = seen (λ p. p .«under_sampled») o;
+      net = signedSeen (λ p. p .net) o;
+    }
 
 -- a verdict as a number; 0 is none of them
 unfoldable pub verdictNumber : Verdict → ℕ
@@ -48,6 +58,9 @@ judgeSeen o =
       full = seen (λ j. j .projection .full) o;
       sampled = seen (λ j. j .projection .sampled) o;
       m = seen (λ j. j .projection .m) o;
+      «under_full» = seen (λ j. j .projection .«under_full») o;
+      «under_sampled» = seen (λ j. j .projection .«under_sampled») o;
+      net = signedSeen (λ j. j .projection .net) o;
       precision = seen (λ j. j .precision) o;
       «upper_limit» = seen (λ j. j .«upper_limit») o;
       verdict = seen (λ j. verdictNumber (j .verdict)) o;

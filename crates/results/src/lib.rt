@@ -43,6 +43,9 @@ pub struct ProjectResult {
     pub full: u64,
     pub sampled: u64,
     pub m: u64,
+    pub under_full: u64,
+    pub under_sampled: u64,
+    pub net: i64,
 }
 
 #[repr(C)]
@@ -52,6 +55,9 @@ pub struct JudgeResult {
     pub full: u64,
     pub sampled: u64,
     pub m: u64,
+    pub under_full: u64,
+    pub under_sampled: u64,
+    pub net: i64,
     pub precision: u64,
     pub upper_limit: u64,
     pub verdict: u64,

@@ -123,6 +123,9 @@ pub fn of_project(answer: ProjectAnswer) -> ProjectResult
                 full: 0,
                 sampled: 0,
                 m: 0,
+                under_full: 0,
+                under_sampled: 0,
+                net: 0,
             }
         }
         ProjectAnswer::Projected(projection) => ProjectResult {
@@ -131,6 +134,9 @@ pub fn of_project(answer: ProjectAnswer) -> ProjectResult
             full: projection.full,
             sampled: projection.sampled,
             m: projection.m,
+            under_full: projection.under_full,
+            under_sampled: projection.under_sampled,
+            net: projection.net,
         },
     }
 }
@@ -158,6 +164,9 @@ pub fn of_judge(answer: JudgeAnswer) -> JudgeResult
                 full: 0,
                 sampled: 0,
                 m: 0,
+                under_full: 0,
+                under_sampled: 0,
+                net: 0,
                 precision: 0,
                 upper_limit: 0,
                 verdict: 0,
@@ -172,6 +181,9 @@ pub fn of_judge(answer: JudgeAnswer) -> JudgeResult
                 full: projection.full,
                 sampled: projection.sampled,
                 m: projection.m,
+                under_full: projection.under_full,
+                under_sampled: projection.under_sampled,
+                net: projection.net,
                 precision: judgement.precision,
                 upper_limit: judgement.upper_limit,
                 verdict: verdict_number(verdict),

@@ -1,12 +1,18 @@
 -- There and back, from what the writer and the reader promise: the numbers of what is lent fit their bytes by their types. Assumes nothing.
-use Prim.Native.Nat.{ℕ, _≤_}
+use Prim.Native.Nat.{ℕ, _+_, _^_, _<_, _≤_}
 use native.Mathlib.Omega.{arith}
-use mathlib.Core.Path.{_≡_, sym, ap, _∙_}
+use mathlib.Core.Path.{_≡_, sym, ap, subst, _∙_}
+use mathlib.Core.Logic.{_⊎_, inl, inr}
 use mathlib.Core.List.{List}
-use lib.ListN.{length, take, drop, length-append}
+use lib.IntN.{ℤ, pos}
+use lib.Signed.{mag}
+use lib.ListN.{length, getD, take, drop, length-append, List·getD-eq-default}
 use Rattle.terms.specs.declared.Refusal.{Refusal}
 use Rattle.terms.specs.Outcome.{accepted, after, left}
 use Rattle.terms.proofs.Outcomes.{after-accepted, refused-first}
+use Rattle.terms.proofs.Tests.{le-or-lt}
+use Rattle.signed.specs.Errors.{Holdable, AllHeld}
+use Rattle.signed.proofs.Laws.{held-size, none-held}
 use Rattle.workfile.specs.declared.Plan.{Plan}
 use Rattle.workfile.specs.declared.Contents.{Contents}
 use Rattle.workfile.specs.declared.ReadAnswer.{ReadAnswer}
@@ -24,9 +30,9 @@ use Rattle.workfile.proofs.Held.{AtRead, read-refused, decodes}
 use Rattle.roundtrip.specs.RoundTrip.{WriteThenRead, ReadThenWrite}
 
 -- A content that was to be written.
-module _ {plan : Plan} {words values errors file file′ : List ℕ} {r : WriteAnswer} (p : WritePromise plan words values errors file r file′) where
+module _ {plan : Plan} {words values file file′ : List ℕ} {errors : List ℤ} {r : WriteAnswer} (p : WritePromise plan words values errors file r file′) where
   -- a refused write is all that happens
-  pub write-refused : {why : Refusal} {w v e : List ℕ} → r ≡ write.Refused why → WriteThenRead plan words values errors file w v e (read.Refused why) file′ w v e
+  pub write-refused : {why : Refusal} {w v : List ℕ} {e : List ℤ} → r ≡ write.Refused why → WriteThenRead plan words values errors file w v e (read.Refused why) file′ w v e
   write-refused {why} {w} {v} {e} is =
       let c = contentWith plan words values errors in
       let o = refused-first length (writeOf c (length file)) (sym (ap writeSays is) ∙ p .answer) in
@@ -48,7 +54,7 @@ module _ {plan : Plan} {words values errors file file′ : List ℕ} {r : WriteA
         omega (arith, long, whole, length-append (q .0) (drop (length (q .0)) file))
 
     -- and reads back to what was handed in
-    pub written-read : {w v e w′ v′ e′ : List ℕ} {q : ReadAnswer} → Fit (contentWith plan words values errors) → Rooms w v e → ReadPromise (take n file′) w v e q w′ v′ e′ →
+    pub written-read : {w v w′ v′ : List ℕ} {e e′ : List ℤ} {q : ReadAnswer} → Fit (contentWith plan words values errors) → Rooms w v e → ReadPromise (take n file′) w v e q w′ v′ e′ →
         WriteThenRead plan words values errors file w v e q file′ w′ v′ e′
     written-read {w} {v} {e} fit rooms back =
         let c = contentWith plan words values errors in
@@ -63,8 +69,11 @@ module _ {plan : Plan} {words values errors file file′ : List ℕ} {r : WriteA
         }
 
 -- A file that was to be read.
+pub was-read : {file w v w′ v′ : List ℕ} {e e′ : List ℤ} {r : ReadAnswer} {k : Contents} → ReadPromise file w v e r w′ v′ e′ → Rooms w v e → r ≡ read.Read k → AtRead file k w′ v′ e′
+was-read promise rooms told = record { words = _; values = _; errors = _; answer = _; rooms = rooms; promise = promise; told = told }
+
 module _ {file again : List ℕ} (bytes : Bytes file) where
-  pub file-refused : {w v e w′ v′ e′ : List ℕ} {r : ReadAnswer} {why : Refusal} → Rooms w v e → ReadPromise file w v e r w′ v′ e′ → r ≡ read.Refused why →
+  pub file-refused : {w v w′ v′ : List ℕ} {e e′ : List ℤ} {r : ReadAnswer} {why : Refusal} → Rooms w v e → ReadPromise file w v e r w′ v′ e′ → r ≡ read.Refused why →
       ReadThenWrite file again (write.Refused why) again
   file-refused {why} rooms p is =
       let o = read-refused rooms p why is in
@@ -74,7 +83,7 @@ module _ {file again : List ℕ} (bytes : Bytes file) where
         only-file = λ content. one-file file content bytes;
       }
 
-  pub file-again : {w v e again′ : List ℕ} {k : Contents} {q : WriteAnswer} → AtRead file k w v e → longestFile ≤ length again →
+  pub file-again : {w v again′ : List ℕ} {e : List ℤ} {k : Contents} {q : WriteAnswer} → AtRead file k w v e → longestFile ≤ length again →
       WritePromise (planWith (k .level) (k .te) (k .ae)) (take (k .words) w) (take (k .lines) v) (take (k .lines) e) again q again′ → ReadThenWrite file again q again′
   file-again {k} at room p =
       let o = decodes at in
@@ -85,8 +94,31 @@ module _ {file again : List ℕ} (bytes : Bytes file) where
         only-file = λ content. one-file file content bytes;
       }
 
+-- the errors before a line were read, and fit 64 bits
+pub record ReadTo (errors : List ℤ) (line : ℕ) : Type 0 where
+  pub within : line ≤ length errors
+  pub held : (i : ℕ) → i < line → Holdable (getD errors i (pos 0))
+
+pub none-read : (errors : List ℤ) → ReadTo errors 0
+none-read errors = record { within = omega arith; held = λ i h. absurd (omega arith) }
+
+module _ {errors : List ℤ} {line : ℕ} (at : ReadTo errors line) where
+  pub one-read : line < length errors → mag (getD errors line (pos 0)) < 2 ^ 63 → ReadTo errors (line + 1)
+  one-read h fits = record { within = omega arith; held = λ i k. go i (le-or-lt (i + 1) line) k }
+    where
+      go : (i : ℕ) → (i + 1 ≤ line) ⊎ (line < i + 1) → i < line + 1 → Holdable (getD errors i (pos 0))
+      go i (inl k) n = at .held i (omega arith)
+      go i (inr k) n = let z : line ≡ i = omega arith in subst (λ (j : ℕ). Holdable (getD errors j (pos 0))) z (held-size (getD errors line (pos 0)) fits)
+
+  pub all-read : length errors ≤ line → AllHeld errors
+  all-read h i = go (le-or-lt (i + 1) line)
+    where
+      go : (i + 1 ≤ line) ⊎ (line < i + 1) → Holdable (getD errors i (pos 0))
+      go (inl k) = at .held i (omega arith)
+      go (inr k) = subst Holdable (sym (List·getD-eq-default errors (pos 0) (omega arith))) none-held
+
 -- any two results that meet a promise agree
-pub write-read-once : {plan : Plan} {ws vs es f w v e f₁ w₁ v₁ e₁ f₂ w₂ v₂ e₂ : List ℕ} {r₁ r₂ : ReadAnswer} → WriteThenRead plan ws vs es f w v e r₁ f₁ w₁ v₁ e₁ →
+pub write-read-once : {plan : Plan} {ws vs f w v f₁ w₁ v₁ f₂ w₂ v₂ : List ℕ} {es e e₁ e₂ : List ℤ} {r₁ r₂ : ReadAnswer} → WriteThenRead plan ws vs es f w v e r₁ f₁ w₁ v₁ e₁ →
     WriteThenRead plan ws vs es f w v e r₂ f₂ w₂ v₂ e₂ → (r₁ ≡ r₂) × (f₁ ≡ f₂) × (w₁ ≡ w₂) × (v₁ ≡ v₂) × (e₁ ≡ e₂)
 write-read-once {r₁} {r₂} p q = (
   read-answer r₁ r₂ (p .answer) (q .answer),

@@ -3,6 +3,7 @@
 use Prim.Native.Nat.{ℕ}
 use mathlib.Core.Path.{_≡_}
 use mathlib.Core.List.{List}
+use lib.IntN.{ℤ}
 use lib.ListN.{length}
 use Rattle.terms.specs.Outcome.{accepted, after, left}
 use Rattle.workfile.specs.declared.{Plan.Plan, ReadAnswer.ReadAnswer, WriteAnswer.WriteAnswer}
@@ -12,7 +13,7 @@ use Rattle.workfile.specs.Promises.{over, readSays, counted, writeSays, writeOf
 
 -- A content is written and its file is read: refused only where the write is. Else the answer is that very content's, the words, values and
 -- errors that were handed in stand in the buffers that are read into, and entries past them stay. before is what was in a buffer.
-pub record WriteThenRead (plan : Plan) (words values errors file words-before values-before errors-before : List ℕ) (r : ReadAnswer) (file′ words-read values-read errors-read : List ℕ) : Type 0 where
+pub record WriteThenRead (plan : Plan) (words values : List ℕ) (errors : List ℤ) (file words-before values-before : List ℕ) (errors-before : List ℤ) (r : ReadAnswer) (file′ words-read values-read : List ℕ) (errors-read : List ℤ) : Type 0 where
   pub answer : readSays r ≡ after (λ bytes. accepted (counted (contentWith plan words values errors))) (writeOf (contentWith plan words values errors) (length file))
   pub file-left : file′ ≡ left (λ bytes. over bytes file) file (writeOf (contentWith plan words values errors) (length file))
   pub words-left : words-read ≡ left (λ bytes. over words words-before) words-before (writeOf (contentWith plan words values errors) (length file))

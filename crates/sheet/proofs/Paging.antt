@@ -4,6 +4,7 @@ use native.Mathlib.Omega.{arith}
 use mathlib.Core.Path.{_≡_, sym, ap, _∙_}
 use mathlib.Core.List.{List, _++_}
 use borrow.Author.Tests.{lt-ltb, le-ltb}
+use lib.IntN.{ℤ}
 use lib.ListN.{length, drop}
 use Rattle.terms.specs.declared.Refusal.{Refusal}
 use Rattle.terms.specs.declared.Refusal.the-variants.{RoomTooShort}
@@ -25,21 +26,21 @@ use Rattle.sheet.specs.Sheet.{textBy, stepsText, sheetText, longestText,
 pub as-bounded : {o o′ x y : List ℕ} {a a′ most more : ℕ} → y ≡ x → most ≤ more → Page.Wrote o a x o′ a′ × (length x ≤ most) → Page.Wrote o a y o′ a′ × (length y ≤ more)
 as-bounded e h w = (as-text e (w .0), omega (arith, ap length e, w .1))
 
-steps-text : (plan : Plan) (words ledger errors : List ℕ) {o : Outcome Answers} → o ≡ stepsOf plan words ledger errors →
+steps-text : (plan : Plan) (words ledger : List ℕ) (errors : List ℤ) {o : Outcome Answers} → o ≡ stepsOf plan words ledger errors →
     stepsText plan words ledger errors ≡ textBy (answersText ledger errors) o
 unfolding stepsText
 steps-text plan words ledger errors e = ap (textBy (answersText ledger errors)) (sym e)
 
 -- as `print_content` meets the steps: what it prints of a refusal and of an answer, and what an answer has shown
-module _ (plan : Plan) (words ledger errors : List ℕ) {r : StepsAnswer} where
+module _ (plan : Plan) (words ledger : List ℕ) (errors : List ℤ) {r : StepsAnswer} where
   pub content-refused : {why : Refusal} {o o′ : List ℕ} {a a′ : ℕ} → r ≡ steps.Refused why → StepsPromise plan words ledger errors r →
       Page.Wrote o a (refusedLine (number why) (place why)) o′ a′ × (length (refusedLine (number why) (place why)) ≤ 50) →
-      Page.Wrote o a (stepsText plan words ledger errors) o′ a′ × (length (stepsText plan words ledger errors) ≤ 401 + 90 * length ledger)
+      Page.Wrote o a (stepsText plan words ledger errors) o′ a′ × (length (stepsText plan words ledger errors) ≤ 464 + 90 * length ledger)
   content-refused is p w = as-bounded (steps-text plan words ledger errors (sym (ap stepsSays is) ∙ p .answer)) (omega arith) w
 
   pub content-answered : {answers : Answers} {o o′ : List ℕ} {a a′ : ℕ} → r ≡ steps.Answered answers → StepsPromise plan words ledger errors r →
-      Page.Wrote o a (answersText ledger errors answers) o′ a′ × (length (answersText ledger errors answers) ≤ 401 + 90 * length ledger) →
-      Page.Wrote o a (stepsText plan words ledger errors) o′ a′ × (length (stepsText plan words ledger errors) ≤ 401 + 90 * length ledger)
+      Page.Wrote o a (answersText ledger errors answers) o′ a′ × (length (answersText ledger errors answers) ≤ 464 + 90 * length ledger) →
+      Page.Wrote o a (stepsText plan words ledger errors) o′ a′ × (length (stepsText plan words ledger errors) ≤ 464 + 90 * length ledger)
   content-answered is p w = as-bounded (steps-text plan words ledger errors (sym (ap stepsSays is) ∙ p .answer)) (omega arith) w
 
   pub content-shown : {answers : Answers} → r ≡ steps.Answered answers → StepsPromise plan words ledger errors r → Shown (answers .figures .interval) ledger errors

@@ -1,24 +1,29 @@
--- How long the texts are at most, where every number fits 64 bits. Assumes nothing.
+-- How long the texts are at most, where every number fits 64 bits, with its sign where it has one. Assumes nothing.
 use Prim.Native.Nat.{ℕ, suc, _+_, _*_, _≤_, _<_}
 use native.Mathlib.Omega.{arith}
-use mathlib.Core.Path.{_≡_, refl, sym, ap, subst, _∙_}
+use mathlib.Core.Path.{_≡_, refl, ap, subst, _∙_}
 use mathlib.Core.Bool.{Bool, true, false}
 use mathlib.Core.List.{List, [], _∷_, _++_}
-use mathlib.Core.Logic.{⊎-elim}
 use borrow.Author.Tests.{ltb-true}
 use lib.Dec.{ltb}
-use lib.ListN.{length, getD, drop, length-append, List·getD-eq-default}
+use lib.IntN.{ℤ, pos}
+use lib.ListN.{length, getD, drop, length-append}
 use lib.Seq.{getD-drop}
+use mir.Syntax.{w64}
+use mir.Val.{SFits}
 use Rattle.terms.specs.declared.Refusal.{Refusal}
 use Rattle.terms.specs.declared.Told.{Told}
 use Rattle.terms.specs.Refusals.{tells, number, place}
-use Rattle.terms.specs.Limits.{mostInterval}
+use Rattle.terms.specs.Limits.{mostTotal, mostInterval}
 use Rattle.terms.proofs.Sums.{one-of-sum}
-use Rattle.terms.proofs.Tests.{le-or-lt}
+use Rattle.signed.specs.declared.Part.the-variants.{Size}
+use Rattle.signed.specs.Errors.{isUnder}
+use Rattle.signed.specs.Parts.{parts}
+use Rattle.signed.proofs.Laws.{held-size}
 use Rattle.pen.specs.Letters.{letters}
-use Rattle.pen.specs.Text.{decimal}
+use Rattle.pen.specs.Text.{decimal, sizedText, signedText}
 use Rattle.pen.specs.Page.{Wrote}
-use Rattle.pen.proofs.Lengths.{Small, decimal-short, line-short}
+use Rattle.pen.proofs.Lengths.{Small, decimal-short, sized-short, signed-short, words-short, line-short}
 use Rattle.split.specs.declared.Figures.{Figures}
 use Rattle.start.specs.declared.Chosen.{Chosen}
 use Rattle.draw.specs.Row.{full}
@@ -29,62 +34,70 @@ use Rattle.project.specs.declared.Line.{Line}
 use Rattle.project.specs.Lines.{amount, stateBy}
 use Rattle.project.specs.Gather.{lineAt, linesWalk}
 use Rattle.project.proofs.Amounts.{amount-most}
+use Rattle.project.proofs.Lines.{walk-none, walk-more}
 use Rattle.judge.specs.declared.Verdict.{Verdict}
 use Rattle.judge.specs.declared.Verdict.the-variants.{Below, Inconclusive, Above}
 use Rattle.judge.specs.declared.Judgement.{Judgement}
 use Rattle.steps.specs.declared.Planned.{Planned}
 use Rattle.steps.specs.declared.Answers.{Answers}
 use Rattle.steps.specs.Steps.{Shown}
-use Rattle.sheet.specs.Lines.{planLine, splitLine, startLine, stateText, itemText, itemsText, projectLine, verdictWord, judgeLine, refusedLine, ledgerText, answersText}
+use Rattle.sheet.specs.Lines.{planLine, splitLine, startLine, entryLine, stateText, itemText, itemsText, projectLine, verdictWord, judgeLine, refusedLine, ledgerText, answersText}
 use Rattle.sheet.proofs.Items.{rest-all}
 
--- the entries of a list fit
-abbrev pub Fit : List ℕ → Type 0
-Fit l = (k : ℕ) → Small (getD l k 0)
+-- a size that 64 bits hold with either sign
+abbrev Sized : ℕ → Type 0
+Sized n = n ≤ 9223372036854775808
 
--- what a drawn line carries fits
-abbrev SmallState : State → Type 0
-SmallState NotDrawn = Unit
-SmallState (Drawn projected) = Small projected
-SmallState Full = Unit
+-- what a drawn line carries is one
+abbrev SizedState : State → Type 0
+SizedState NotDrawn = Unit
+SizedState (Drawn projected) = Sized projected
+SizedState Full = Unit
 
-state-small : (J next v e : ℕ) (f t : Bool) → ltb next v ≡ t → J ≤ mostInterval → e ≤ v → SmallState (stateBy f t (amount J v e))
-state-small J next v e true t p h w = tt
-state-small J next v e false true p h w = let some = ltb-true next v p in omega (arith, amount-most J v e (omega arith) w)
-state-small J next v e false false p h w = tt
+state-sized : (J next v e : ℕ) (f t : Bool) → ltb next v ≡ t → J ≤ mostInterval → e ≤ v → SizedState (stateBy f t (amount J v e))
+state-sized J next v e true t p h w = tt
+state-sized J next v e false true p h w = let some = ltb-true next v p in omega (arith, amount-most J v e (omega arith) w)
+state-sized J next v e false false p h w = tt
 
-state-short : (i v e : ℕ) (s : State) → Small i → Small v → Small e → SmallState s → length (stateText i v e s) ≤ 90
-state-short i v e NotDrawn hi hv he hs = omega arith
-state-short i v e (Drawn a) hi hv he hs = omega (arith, line-short (letters "drawn") (i ∷ v ∷ e ∷ a ∷ []) (hi, (hv, (he, (hs, tt)))))
-state-short i v e Full hi hv he hs = omega (arith, line-short (letters "full") (i ∷ v ∷ e ∷ e ∷ []) (hi, (hv, (he, (he, tt)))))
+entry-short : (word : List ℕ) (i v : ℕ) (u : Bool) (e a : ℕ) → Small i → Small v → Sized e → Sized a → length (entryLine word i v u e a) ≤ length word + 85
+entry-short word i v u e a hi hv he ha =
+    let last : List ℕ = sizedText a u ++ (10 ∷ []) in
+    omega (
+      arith,
+      words-short word (i ∷ v ∷ []) (sizedText e u ∷ sizedText a u ∷ []) (hi, (hv, tt)),
+      length-append (sizedText e u) (32 ∷ last),
+      length-append (sizedText a u) (10 ∷ []),
+      sized-short e u he,
+      sized-short a u ha,
+    )
 
--- the lines of a walk take at most 90 bytes each
-walk-short : (J next item : ℕ) (ledger errors : List ℕ) → Small (item + length ledger) → J ≤ mostInterval →
-    ((k : ℕ) → k < length ledger → getD errors k 0 ≤ getD ledger k 0) → Fit ledger → Fit errors →
-    length (itemsText item (linesWalk J next ledger errors)) ≤ 90 * length ledger
-unfolding itemsText linesWalk
-walk-short J next item [] errors h narrow w hv he = omega arith
-walk-short J next item (v ∷ vs) errors h narrow w hv he =
-    let e : ℕ = getD errors 0 0 in
+state-short : (i v : ℕ) (u : Bool) (e : ℕ) (s : State) → Small i → Small v → Sized e → SizedState s → length (stateText i v u e s) ≤ 90
+state-short i v u e NotDrawn hi hv he hs = omega arith
+state-short i v u e (Drawn a) hi hv he hs = omega (arith, entry-short (letters "drawn") i v u e a hi hv he hs)
+state-short i v u e Full hi hv he hs = omega (arith, entry-short (letters "full") i v u e e hi hv he he)
+
+-- the lines of a walk take at most 90 bytes each, whatever the signs
+walk-short : (errors : List ℤ) (J next item : ℕ) (ledger sizes : List ℕ) → Small (item + length ledger) → J ≤ mostInterval →
+    ((k : ℕ) → k < length ledger → getD sizes k 0 ≤ getD ledger k 0) → ((k : ℕ) → getD ledger k 0 ≤ mostTotal) →
+    length (itemsText errors item (linesWalk J next ledger sizes)) ≤ 90 * length ledger
+unfolding itemsText
+walk-short errors J next item [] sizes h narrow w most = rw (walk-none J next sizes) (omega arith)
+walk-short errors J next item (v ∷ vs) sizes h narrow w most =
+    let e : ℕ = getD sizes 0 0 in
     let l : Line = lineAt J next v e in
-    let front : (k : ℕ) → getD (drop 1 errors) k 0 ≡ getD errors (suc k) 0 = λ k. let one : 1 + k ≡ suc k = omega arith in getD-drop 1 errors k 0 ∙ ap (λ (n : ℕ). getD errors n 0) one in
-    let small = state-small J next v e (full J v) (ltb next v) refl narrow (w 0 (omega arith)) in
-    let first = state-short item v e (l .state) (omega arith) (hv 0) (he 0) small in
-    let later = walk-short J (aheadAfter J next v) (suc item) vs (drop 1 errors) (omega arith) narrow (λ k g. omega (arith, w (suc k) (omega arith), front k)) (λ k. hv (suc k))
-    (λ k. subst Small (sym (front k)) (he (suc k))) in
-    omega (arith, length-append (itemText item l) (itemsText (suc item) (linesWalk J (aheadAfter J next v) vs (drop 1 errors))), first, later)
+    let u = isUnder (getD errors item (pos 0)) in
+    let front : (k : ℕ) → getD (drop 1 sizes) k 0 ≡ getD sizes (suc k) 0 = λ k. let one : 1 + k ≡ suc k = omega arith in getD-drop 1 sizes k 0 ∙ ap (λ (n : ℕ). getD sizes n 0) one in
+    let own = w 0 (omega arith) in
+    let first = state-short item v u e (l .state) (omega arith) (omega (arith, most 0)) (omega (arith, own, most 0)) (state-sized J next v e (full J v) (ltb next v) refl narrow own) in
+    let later = walk-short errors J (aheadAfter J next v) (suc item) vs (drop 1 sizes) (omega arith) narrow (λ k g. omega (arith, w (suc k) (omega arith), front k)) (λ k. most (suc k)) in
+    rw (walk-more J next v vs sizes)
+    (omega (arith, length-append (itemText item u l) (itemsText errors (suc item) (linesWalk J (aheadAfter J next v) vs (drop 1 sizes))), first, later))
 
--- the values and the errors of a ledger that the steps accept fit
-module _ {J : ℕ} {ledger errors : List ℕ} (p : Shown J ledger errors) where
-  values-fit : Fit ledger
-  values-fit k = omega (arith, one-of-sum ledger k, p .summed)
-
-  errors-fit : Fit errors
-  errors-fit k =
-      ⊎-elim (λ h. omega (arith, List·getD-eq-default errors 0 {n = k} (omega (arith, p .same)))) (λ (h : k < length ledger). omega (arith, p .within k h, values-fit k)) (le-or-lt (length ledger) k)
-
-  pub ledger-short : (start : ℕ) → length (ledgerText J start ledger errors) ≤ 90 * length ledger
-  ledger-short start = rw (rest-all J ledger errors start) (walk-short J start 0 ledger errors (omega (arith, p .few)) (p .narrow) (p .within) values-fit errors-fit)
+-- those of a ledger that the steps accept
+pub ledger-short : {J : ℕ} {ledger : List ℕ} {errors : List ℤ} → Shown J ledger errors → (start : ℕ) → length (ledgerText J start ledger errors) ≤ 90 * length ledger
+ledger-short {J} {ledger} {errors} p start =
+    rw (rest-all J ledger errors start)
+    (walk-short errors J start 0 ledger (parts Size errors) (omega (arith, p .few)) (p .narrow) (p .within) (λ k. omega (arith, one-of-sum ledger k, p .summed)))
 
 refused-short : (number place : ℕ) → Small number → Small place → length (refusedLine number place) ≤ 50
 refused-short number place hn hp = omega (arith, line-short (letters "refused") (number ∷ place ∷ []) (hn, (hp, tt)))
@@ -116,6 +129,9 @@ pub record SmallJudgement (j : Judgement) : Type 0 where
   pub full : Small (j .projection .full)
   pub sampled : Small (j .projection .sampled)
   pub m : Small (j .projection .m)
+  pub under-full : Small (j .projection .«under_full»)
+  pub under-sampled : Small (j .projection .«under_sampled»)
+  pub net : SFits w64 (j .projection .net)
   pub precision : Small (j .precision)
   pub upper-limit : Small (j .«upper_limit»)
 
@@ -147,9 +163,16 @@ verdict-short Inconclusive = omega arith
 verdict-short Above = omega arith
 
 module _ (j : Judgement) (s : SmallJudgement j) where
-  project-short : length (projectLine (j .projection)) ≤ 71
+  project-short : length (projectLine (j .projection)) ≤ 134
   project-short =
-      omega (arith, line-short (letters "project") (j .projection .full ∷ j .projection .sampled ∷ j .projection .m ∷ []) (s .full, (s .sampled, (s .m, tt))))
+      let p = j .projection in
+      omega (
+        arith,
+        words-short (letters "project") (p .full ∷ p .sampled ∷ p .m ∷ p .«under_full» ∷ p .«under_sampled» ∷ []) (signedText (p .net) ∷ [])
+            (s .full, (s .sampled, (s .m, (s .under-full, (s .under-sampled, tt))))),
+        length-append (signedText (p .net)) (10 ∷ []),
+        signed-short (p .net) (held-size (p .net) (s .net .sfits)),
+      )
 
   judge-short : length (judgeLine j) ≤ 61
   judge-short =
@@ -165,8 +188,8 @@ module _ (j : Judgement) (s : SmallJudgement j) where
         verdict-short (j .verdict),
       )
 
-pub answers-short : (ledger errors : List ℕ) (a : Answers) → SmallAnswers a → Shown (a .figures .interval) ledger errors →
-    length (answersText ledger errors a) ≤ 401 + 90 * length ledger
+pub answers-short : (ledger : List ℕ) (errors : List ℤ) (a : Answers) → SmallAnswers a → Shown (a .figures .interval) ledger errors →
+    length (answersText ledger errors a) ≤ 464 + 90 * length ledger
 unfolding answersText
 answers-short ledger errors a s p =
     let plan = planLine (a .planned) in

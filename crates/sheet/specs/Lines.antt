@@ -1,12 +1,17 @@
--- The lines of the sheet, as document 01 has them under "The practice sheet". Definitions: nothing is assumed.
+-- The lines of the sheet, as document 01 has them under "The practice sheet", and document 02's K5. Definitions: nothing is assumed.
 use Prim.Native.Nat.{ℕ, suc}
+use mathlib.Core.Bool.{Bool}
 use mathlib.Core.List.{List, [], _∷_, _++_}
+use lib.IntN.{ℤ, pos}
+use lib.ListN.{getD}
+use Rattle.signed.specs.declared.Part.the-variants.{Size}
+use Rattle.signed.specs.Errors.{isUnder}
 use Rattle.pen.specs.Letters.{letters}
-use Rattle.pen.specs.Text.{decimal, line}
+use Rattle.pen.specs.Text.{decimal, sizedText, signedText, line}
 use Rattle.split.specs.declared.Figures.{Figures}
 use Rattle.start.specs.declared.Chosen.{Chosen}
 use Rattle.project.specs.declared.{State.State, Line.Line, Projection.Projection}
-use Rattle.project.specs.Lines.{linesOf}
+use Rattle.project.specs.Project.{linesWith}
 use Rattle.judge.specs.declared.{Verdict.Verdict, Judgement.Judgement}
 use Rattle.judge.specs.declared.Verdict.the-variants.{Below, Inconclusive, Above}
 use Rattle.steps.specs.declared.{Planned.Planned, Answers.Answers}
@@ -24,23 +29,28 @@ splitLine f =
 abbrev pub startLine : Chosen → List ℕ
 startLine c = line (letters "start" ∷ decimal (c .start) ∷ decimal (c .words) ∷ [])
 
--- a drawn or full line: line, value, error, projected (the error itself for a full line)
-abbrev pub stateText : ℕ → ℕ → ℕ → State → List ℕ
-stateText item value error State.NotDrawn = []
-stateText item value error (State.Drawn projected) = line (letters "drawn" ∷ decimal item ∷ decimal value ∷ decimal error ∷ decimal projected ∷ [])
-stateText item value error State.Full = line (letters "full" ∷ decimal item ∷ decimal value ∷ decimal error ∷ decimal error ∷ [])
+-- a drawn or full line, opening with its word: line, value, error, projected; where it is understated, error and projected have a minus
+abbrev pub entryLine : List ℕ → ℕ → ℕ → Bool → ℕ → ℕ → List ℕ
+entryLine word item value under error projected = line (word ∷ decimal item ∷ decimal value ∷ sizedText error under ∷ sizedText projected under ∷ [])
 
-abbrev pub itemText : ℕ → Line → List ℕ
-itemText item l = stateText item (l .value) (l .error) (l .state)
+-- by its state: a full line projects the error itself
+abbrev pub stateText : ℕ → ℕ → Bool → ℕ → State → List ℕ
+stateText item value under error State.NotDrawn = []
+stateText item value under error (State.Drawn projected) = entryLine (letters "drawn") item value under error projected
+stateText item value under error State.Full = entryLine (letters "full") item value under error error
 
--- the lines in ledger order, from an item's number on
-unfoldable pub itemsText : ℕ → List Line → List ℕ
-itemsText item [] = []
-itemsText item (l ∷ later) = itemText item l ++ itemsText (suc item) later
+abbrev pub itemText : ℕ → Bool → Line → List ℕ
+itemText item under l = stateText item (l .value) under (l .error) (l .state)
 
--- project: full sum, sampled sum, m
+-- the lines in ledger order, from an item's number on, each with the sign of its error
+unfoldable pub itemsText : List ℤ → ℕ → List Line → List ℕ
+itemsText errors item [] = []
+itemsText errors item (l ∷ later) = itemText item (isUnder (getD errors item (pos 0))) l ++ itemsText errors (suc item) later
+
+-- project: full sum, sampled sum, m; what is understated, full and sampled; the net
 abbrev pub projectLine : Projection → List ℕ
-projectLine p = line (letters "project" ∷ decimal (p .full) ∷ decimal (p .sampled) ∷ decimal (p .m) ∷ [])
+projectLine p =
+    line (letters "project" ∷ decimal (p .full) ∷ decimal (p .sampled) ∷ decimal (p .m) ∷ decimal (p .«under_full») ∷ decimal (p .«under_sampled») ∷ signedText (p .net) ∷ [])
 
 abbrev pub verdictWord : Verdict → List ℕ
 verdictWord Below = letters "below"
@@ -56,8 +66,8 @@ abbrev pub refusedLine : ℕ → ℕ → List ℕ
 refusedLine number place = line (letters "refused" ∷ decimal number ∷ decimal place ∷ [])
 
 -- the drawn and full lines of a ledger, at an interval and a start
-unfoldable pub ledgerText : ℕ → ℕ → List ℕ → List ℕ → List ℕ
-ledgerText J start ledger errors = itemsText 0 (linesOf J start ledger errors)
+unfoldable pub ledgerText : ℕ → ℕ → List ℕ → List ℤ → List ℕ
+ledgerText J start ledger errors = itemsText errors 0 (linesWith Size J start ledger errors)
 
 -- the lines before those of the ledger, and after them
 abbrev pub openingText : Answers → List ℕ
@@ -67,5 +77,5 @@ abbrev pub closingText : Judgement → List ℕ
 closingText j = projectLine (j .projection) ++ judgeLine j
 
 -- the sheet of what the steps have answered on a ledger with its errors
-unfoldable pub answersText : List ℕ → List ℕ → Answers → List ℕ
+unfoldable pub answersText : List ℕ → List ℤ → Answers → List ℕ
 answersText ledger errors a = openingText a ++ (ledgerText (a .figures .interval) (a .chosen .start) ledger errors ++ closingText (a .judgement))

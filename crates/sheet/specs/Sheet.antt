@@ -3,6 +3,7 @@ use Prim.Native.Nat.{ℕ}
 use mathlib.Core.Path.{_≡_}
 use mathlib.Core.List.{List, _++_}
 use lib.Dec.{ltb}
+use lib.IntN.{ℤ}
 use lib.ListN.{length, drop}
 use Rattle.terms.specs.Outcome.{Outcome, accepted, refused, refusedBy, left}
 use Rattle.terms.specs.Numbers.{pick}
@@ -19,7 +20,7 @@ textBy text (accepted a) = text a
 textBy text (refused number place) = refusedLine number place
 
 -- from a file's content
-unfoldable pub stepsText : Plan → List ℕ → List ℕ → List ℕ → List ℕ
+unfoldable pub stepsText : Plan → List ℕ → List ℕ → List ℤ → List ℕ
 stepsText plan words ledger errors = textBy (answersText ledger errors) (stepsOf plan words ledger errors)
 
 abbrev pub contentText : Content → List ℕ
@@ -29,9 +30,9 @@ contentText c = stepsText (c .plan) (c .words) (c .values) (c .errors)
 unfoldable pub sheetText : List ℕ → List ℕ
 sheetText file = textBy contentText (decode file)
 
--- No text is longer, as `print_file` ensures: 90 bytes for each of 2,048 lines, and 401 for the other five.
+-- No text is longer, as `print_file` ensures: 90 bytes for each of 2,048 lines, and 464 for the other five.
 abbrev pub longestText : ℕ
-longestText = 184721
+longestText = 184784
 
 -- on a page of any length: what the answer says, 18 where the page is too short, and the page afterwards
 abbrev pub sheetSays : SheetAnswer → Outcome ℕ

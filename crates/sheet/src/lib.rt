@@ -12,7 +12,7 @@ ghost use Rattle.pen.specs.Page.{Wrote, Printed};
 ghost use Rattle.sheet.specs.Sheet.{stepsText, sheetText, longestText, SheetPromise};
 
 // No text is longer.
-pub const LONGEST_TEXT: usize = 184_721;
+pub const LONGEST_TEXT: usize = 184_784;
 
 // The text of an input is decided by so many of its first bytes (`first-bytes` of proofs/FirstBytes.antt).
 pub const DECIDING_BYTES: usize = workfile::LONGEST_FILE + 1;
@@ -30,10 +30,10 @@ fn print_content(
     plan: Plan,
     words: &[u64],
     ledger: &[u64],
-    errors: &[u64],
+    errors: &[i64],
 ) -> Pen
     ensures { λ r. ⌜ Wrote (now (page .entry)) (pen .at) (stepsText plan (now (words .entry)) (now (ledger .entry)) (now (errors .entry))) (now (page .exit)) (r .at) ⌝ }
-    ensures { λ r. ⌜ length (stepsText plan (now (words .entry)) (now (ledger .entry)) (now (errors .entry))) ≤ 401 + 90 * length (now (ledger .entry)) ⌝ }
+    ensures { λ r. ⌜ length (stepsText plan (now (words .entry)) (now (ledger .entry)) (now (errors .entry))) ≤ 464 + 90 * length (now (ledger .entry)) ⌝ }
 {
     match steps::steps(plan, words, ledger, errors) {
         StepsAnswer::Refused(why) => lines::refused_line(pen, page, why),
@@ -48,7 +48,7 @@ fn print_file(pen: Pen, page: &mut [u8], file: &[u8]) -> Pen
 {
     let mut words = [0u64; workfile::MOST_WORDS];
     let mut values = [0u64; workfile::MOST_FILE_LINES];
-    let mut errors = [0u64; workfile::MOST_FILE_LINES];
+    let mut errors = [0i64; workfile::MOST_FILE_LINES];
     match reader::read(file, &mut words, &mut values, &mut errors) {
         ReadAnswer::Refused(why) => lines::refused_line(pen, page, why),
         ReadAnswer::Read(contents) => {

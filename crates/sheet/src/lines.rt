@@ -15,11 +15,15 @@ use walk::Ahead;
 ghost use Prim.Native.Nat.{_+_, _*_, _≤_};
 ghost use mathlib.Core.List.{[], _∷_};
 ghost use lib.ListN.{length};
+ghost use Rattle.terms.specs.Limits.{mostInterval};
 ghost use Rattle.terms.specs.Refusals.{number, place};
+ghost use Rattle.signed.specs.declared.Part.the-variants.{Size};
+ghost use Rattle.signed.specs.Errors.{sizeOf, isUnder};
 ghost use Rattle.pen.specs.Page.{Wrote};
-ghost use Rattle.pen.specs.Text.{more};
+ghost use Rattle.pen.specs.Text.{sizedText, signedText, more};
+ghost use Rattle.project.specs.Gather.{lineWith};
 ghost use Rattle.steps.specs.Steps.{Shown};
-ghost use Rattle.sheet.specs.Lines.{planLine, splitLine, startLine, itemText, ledgerText, projectLine, verdictWord, judgeLine, refusedLine, openingText, closingText, answersText};
+ghost use Rattle.sheet.specs.Lines.{planLine, splitLine, startLine, entryLine, itemText, ledgerText, projectLine, verdictWord, judgeLine, refusedLine, openingText, closingText, answersText};
 
 fn plan_line(pen: Pen, page: &mut [u8], planned: Planned) -> Pen
     ensures { λ r. ⌜ Wrote (now (page .entry)) (pen .at) (planLine planned) (now (page .exit)) (r .at) ⌝ }
@@ -49,22 +53,61 @@ fn start_line(pen: Pen, page: &mut [u8], chosen: Chosen) -> Pen
     pen.line(page, b"start", &numbers)
 }
 
+// The error and what it projects as the last of a line, with a minus where it is understated.
+fn signed_words(pen: Pen, page: &mut [u8], under: bool, error: u64, projected: u64) -> Pen
+    ensures { λ r. ⌜ Wrote (now (page .entry)) (pen .at) (more (sizedText error under ∷ sizedText projected under ∷ [])) (now (page .exit)) (r .at) ⌝ }
+{
+    let entered = pen.sized_field(page, error, under);
+    let ended = entered.sized_field(page, projected, under);
+    ended.byte(page, 10)
+}
+
+// The line of a word: item, value, error and what it projects.
+fn entry_line(
+    pen: Pen,
+    page: &mut [u8],
+    word: &[u8],
+    item: u64,
+    under: bool,
+    line: Line,
+    projected: u64,
+) -> Pen
+    ensures { λ r. ⌜ Wrote (now (page .entry)) (pen .at) (entryLine (now (word .entry)) item (line .value) under (line .error) projected) (now (page .exit)) (r .at) ⌝ }
+{
+    let numbers = [item, line.value];
+    let opened = pen.text(page, word);
+    let placed = opened.fields(page, &numbers);
+    signed_words(placed, page, under, line.error, projected)
+}
+
 // A drawn or full line; any other has none.
-fn item_line(pen: Pen, page: &mut [u8], item: u64, line: Line) -> Pen
-    ensures { λ r. ⌜ Wrote (now (page .entry)) (pen .at) (itemText item line) (now (page .exit)) (r .at) ⌝ }
+fn item_line(pen: Pen, page: &mut [u8], item: u64, under: bool, line: Line) -> Pen
+    ensures { λ r. ⌜ Wrote (now (page .entry)) (pen .at) (itemText item under line) (now (page .exit)) (r .at) ⌝ }
 {
     let state = line.state;
     match state {
         State::NotDrawn => pen,
-        State::Drawn(amount) => {
-            let numbers = [item, line.value, line.error, amount];
-            pen.line(page, b"drawn", &numbers)
-        }
-        State::Full => {
-            let numbers = [item, line.value, line.error, line.error];
-            pen.line(page, b"full", &numbers)
-        }
+        State::Drawn(amount) => entry_line(pen, page, b"drawn", item, under, line, amount),
+        State::Full => entry_line(pen, page, b"full", item, under, line, line.error),
     }
+}
+
+// One line of the ledger: its state goes by the size of its error, and its text by the sign too.
+fn ledger_line(
+    pen: Pen,
+    page: &mut [u8],
+    item: u64,
+    value: u64,
+    error: i64,
+    interval: u64,
+    next: Ahead,
+) -> Pen
+    requires { ⌜ (sizeOf error ≤ value) × (interval ≤ mostInterval) ⌝ }
+    ensures { λ r. ⌜ Wrote (now (page .entry)) (pen .at) (itemText item (isUnder error) (lineWith Size interval (next .0) value error)) (now (page .exit)) (r .at) ⌝ }
+{
+    let size = signed::size_of(error);
+    let line = project::line_of(value, size, interval, next);
+    item_line(pen, page, item, error < 0, line)
 }
 
 // The drawn and full lines, in ledger order.
@@ -72,7 +115,7 @@ fn ledger_lines(
     pen: Pen,
     page: &mut [u8],
     ledger: &[u64],
-    errors: &[u64],
+    errors: &[i64],
     interval: u64,
     start: Cent,
 ) -> Pen
@@ -84,19 +127,35 @@ fn ledger_lines(
     let mut item: usize = 0;
     while item < ledger.len() {
         let value = ledger[item];
-        let line = project::line_of(value, errors[item], interval, next);
-        at = item_line(at, page, item as u64, line);
+        at = ledger_line(at, page, item as u64, value, errors[item], interval, next);
         next = walk::step_over(value, interval, next);
         item += 1;
     }
     at
 }
 
+// The net as the last of a line.
+fn net_word(pen: Pen, page: &mut [u8], net: i64) -> Pen
+    ensures { λ r. ⌜ Wrote (now (page .entry)) (pen .at) (more (signedText net ∷ [])) (now (page .exit)) (r .at) ⌝ }
+{
+    let size = signed::size_of(net);
+    let ended = pen.sized_field(page, size, net < 0);
+    ended.byte(page, 10)
+}
+
 fn project_line(pen: Pen, page: &mut [u8], projection: Projection) -> Pen
     ensures { λ r. ⌜ Wrote (now (page .entry)) (pen .at) (projectLine projection) (now (page .exit)) (r .at) ⌝ }
 {
-    let numbers = [projection.full, projection.sampled, projection.m];
-    pen.line(page, b"project", &numbers)
+    let numbers = [
+        projection.full,
+        projection.sampled,
+        projection.m,
+        projection.under_full,
+        projection.under_sampled,
+    ];
+    let opened = pen.text(page, b"project");
+    let summed = opened.fields(page, &numbers);
+    net_word(summed, page, projection.net)
 }
 
 // The verdict's word as the last of a line.
@@ -153,11 +212,11 @@ pub fn answers_text(
     page: &mut [u8],
     answers: Answers,
     ledger: &[u64],
-    errors: &[u64],
+    errors: &[i64],
 ) -> Pen
     requires { ⌜ Shown (answers .figures .interval) (now ledger) (now errors) ⌝ }
     ensures { λ r. ⌜ Wrote (now (page .entry)) (pen .at) (answersText (now (ledger .entry)) (now (errors .entry)) answers) (now (page .exit)) (r .at) ⌝ }
-    ensures { λ r. ⌜ length (answersText (now (ledger .entry)) (now (errors .entry)) answers) ≤ 401 + 90 * length (now (ledger .entry)) ⌝ }
+    ensures { λ r. ⌜ length (answersText (now (ledger .entry)) (now (errors .entry)) answers) ≤ 464 + 90 * length (now (ledger .entry)) ⌝ }
 {
     let interval = answers.figures.interval;
     let start = Cent(answers.chosen.start);

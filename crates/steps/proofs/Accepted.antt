@@ -2,6 +2,7 @@
 use Prim.Native.Nat.{ℕ, _≤_}
 use mathlib.Core.Path.{_≡_, sym, _∙_}
 use mathlib.Core.List.{List}
+use lib.IntN.{ℤ}
 use lib.ListN.{length}
 use Rattle.terms.specs.Outcome.{accepted}
 use Rattle.terms.proofs.Outcomes.{after-accepted}
@@ -21,7 +22,7 @@ use Rattle.steps.specs.declared.StepsAnswer.{StepsAnswer}
 use Rattle.steps.specs.Steps.{plannedWith, answersWith, judgedFrom, startedFrom, splitFrom, sizedFrom, totalledFrom, stepsOf, stepsSays, StepsPromise, Shown}
 
 -- from the split on
-split-shown : (p : Planned) (words ledger errors : List ℕ) (a : Answers) → splitFrom p words ledger errors ≡ accepted a →
+split-shown : (p : Planned) (words ledger : List ℕ) (errors : List ℤ) (a : Answers) → splitFrom p words ledger errors ≡ accepted a →
     Shown (a .figures .interval) ledger errors × (1 ≤ a .figures .«draws_left»)
 unfolding splitFrom startedFrom judgedFrom
 split-shown p words ledger errors a e =
@@ -42,7 +43,7 @@ split-shown p words ledger errors a e =
     (shown, rw (← same) (facts .a-draw))
 
 -- from the level on
-steps-accepted : (plan : Plan) (words ledger errors : List ℕ) (a : Answers) → accepted a ≡ stepsOf plan words ledger errors →
+steps-accepted : (plan : Plan) (words ledger : List ℕ) (errors : List ℤ) (a : Answers) → accepted a ≡ stepsOf plan words ledger errors →
     Shown (a .figures .interval) ledger errors × (1 ≤ a .figures .«draws_left»)
 unfolding stepsOf totalledFrom sizedFrom
 steps-accepted plan words ledger errors a e =
@@ -51,9 +52,9 @@ steps-accepted plan words ledger errors a e =
     let g = after-accepted (λ draws. splitFrom (plannedWith plan (d .0) draws) words ledger errors) (sizeOf (plan .level) (d .0) (plan .te) (plan .ae)) a (d .2) in
     split-shown (plannedWith plan (d .0) (g .0)) words ledger errors a (g .2)
 
-pub steps-shown : (plan : Plan) (words ledger errors : List ℕ) (a : Answers) → accepted a ≡ stepsOf plan words ledger errors → Shown (a .figures .interval) ledger errors
+pub steps-shown : (plan : Plan) (words ledger : List ℕ) (errors : List ℤ) (a : Answers) → accepted a ≡ stepsOf plan words ledger errors → Shown (a .figures .interval) ledger errors
 steps-shown plan words ledger errors a e = steps-accepted plan words ledger errors a e .0
 
 -- as `steps` meets it
-pub steps-promised : {plan : Plan} {words ledger errors : List ℕ} {r : StepsAnswer} → stepsSays r ≡ stepsOf plan words ledger errors → StepsPromise plan words ledger errors r
+pub steps-promised : {plan : Plan} {words ledger : List ℕ} {errors : List ℤ} {r : StepsAnswer} → stepsSays r ≡ stepsOf plan words ledger errors → StepsPromise plan words ledger errors r
 steps-promised {plan} {words} {ledger} {errors} e = record { answer = e; draw-kept = λ a h. steps-accepted plan words ledger errors a (sym h ∙ e) .1 }

@@ -2,6 +2,7 @@
 use Prim.Native.Nat.{ℕ}
 use mathlib.Core.Path.{_≡_, sym, ap, _∙_}
 use mathlib.Core.List.{List}
+use lib.IntN.{ℤ}
 use lib.ListN.{length}
 use Rattle.terms.specs.declared.Refusal.{Refusal}
 use Rattle.terms.specs.Outcome.{Outcome, accepted, refusedBy, after}
@@ -33,7 +34,7 @@ use Rattle.steps.specs.declared.Answers.{Answers}
 use Rattle.steps.specs.Steps.{plannedWith, answersWith, judgedFrom, startedFrom, splitFrom, sizedFrom, totalledFrom, stepsOf}
 
 -- as `judged` meets the judgement
-module _ (p : Planned) (ledger errors : List ℕ) (f : Figures) (s : Chosen) {r : JudgeAnswer} where
+module _ (p : Planned) (ledger : List ℕ) (errors : List ℤ) (f : Figures) (s : Chosen) {r : JudgeAnswer} where
   from-judge : {x : JudgeAnswer} → r ≡ x → JudgePromise (p .level) ledger (p .draws) (s .start) errors (p .te) r →
       after (λ judgement. accepted (answersWith p f s judgement)) (judgeSays x) ≡ judgedFrom p ledger errors f s
   unfolding judgedFrom
@@ -47,7 +48,7 @@ module _ (p : Planned) (ledger errors : List ℕ) (f : Figures) (s : Chosen) {r 
   judge-answers is e = from-judge is e
 
 -- as `started` meets the start
-module _ (p : Planned) (words ledger errors : List ℕ) (f : Figures) {r : StartAnswer} where
+module _ (p : Planned) (words ledger : List ℕ) (errors : List ℤ) (f : Figures) {r : StartAnswer} where
   from-start : {x : StartAnswer} → r ≡ x → StartPromise (f .interval) words r → after (judgedFrom p ledger errors f) (startSays x) ≡ startedFrom p words ledger errors f
   unfolding startedFrom
   from-start is e = ap (after (judgedFrom p ledger errors f)) (sym (ap startSays is) ∙ e .answer)
@@ -59,7 +60,7 @@ module _ (p : Planned) (words ledger errors : List ℕ) (f : Figures) {r : Start
   start-goes-on is e q = q ∙ from-start is e
 
 -- as `parted` meets the split
-module _ (p : Planned) (words ledger errors : List ℕ) {r : SplitAnswer} where
+module _ (p : Planned) (words ledger : List ℕ) (errors : List ℤ) {r : SplitAnswer} where
   from-split : {x : SplitAnswer} → r ≡ x → FiguresPromise ledger (p .draws) (length errors) r → after (startedFrom p words ledger errors) (splitSays x) ≡ splitFrom p words ledger errors
   unfolding splitFrom
   from-split is e = ap (after (startedFrom p words ledger errors)) (sym (ap splitSays is) ∙ e .answer)
@@ -72,7 +73,7 @@ module _ (p : Planned) (words ledger errors : List ℕ) {r : SplitAnswer} where
   split-goes-on is e q = q ∙ from-split is e
 
 -- as `sized` meets the size
-module _ (plan : Plan) (words ledger errors : List ℕ) (total : ℕ) {r : SizeAnswer} where
+module _ (plan : Plan) (words ledger : List ℕ) (errors : List ℤ) (total : ℕ) {r : SizeAnswer} where
   from-size : {x : SizeAnswer} → r ≡ x → SizePromise (plan .level) total (plan .te) (plan .ae) r →
       after (λ draws. splitFrom (plannedWith plan total draws) words ledger errors) (sizeSays x) ≡ sizedFrom plan words ledger errors total
   unfolding sizedFrom
@@ -86,7 +87,7 @@ module _ (plan : Plan) (words ledger errors : List ℕ) (total : ℕ) {r : SizeA
   size-goes-on is e q = q ∙ from-size is e
 
 -- as `totalled` meets the ledger
-module _ (plan : Plan) (words ledger errors : List ℕ) {r : LedgerAnswer} where
+module _ (plan : Plan) (words ledger : List ℕ) (errors : List ℤ) {r : LedgerAnswer} where
   from-ledger : {x : LedgerAnswer} → r ≡ x → LedgerPromise ledger (length errors) r → after (sizedFrom plan words ledger errors) (ledgerSays x) ≡ totalledFrom plan words ledger errors
   unfolding totalledFrom
   from-ledger is e = ap (after (sizedFrom plan words ledger errors)) (sym (ap ledgerSays is) ∙ e .answer)
@@ -99,7 +100,7 @@ module _ (plan : Plan) (words ledger errors : List ℕ) {r : LedgerAnswer} where
   ledger-goes-on is e q = q ∙ from-ledger is e
 
 -- as `steps` meets the level
-module _ (plan : Plan) (words ledger errors : List ℕ) {r : LevelAnswer} where
+module _ (plan : Plan) (words ledger : List ℕ) (errors : List ℤ) {r : LevelAnswer} where
   from-level : {x : LevelAnswer} → r ≡ x → LevelPromise (plan .level) r → after (λ level. totalledFrom plan words ledger errors) (levelSays x) ≡ stepsOf plan words ledger errors
   unfolding stepsOf
   from-level is e = ap (after (λ level. totalledFrom plan words ledger errors)) (sym (ap levelSays is) ∙ e .answer)

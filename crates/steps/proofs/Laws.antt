@@ -5,6 +5,7 @@ use native.Mathlib.Omega.{arith}
 use mathlib.Core.Path.{_≡_, refl, sym, ap, _∙_}
 use mathlib.Core.List.{List, [], _∷_}
 use mathlib.Core.Logic.{⊎-elim}
+use lib.IntN.{ℤ}
 use lib.ListN.{length}
 use Rattle.terms.specs.Outcome.{Outcome, accepted, refused, after}
 use Rattle.terms.proofs.Answers.{Made, good, bad, one-answer}
@@ -39,7 +40,7 @@ made : (r : StepsAnswer) → Made Answered Refused r
 made (Answered a) = good a
 made (Refused why) = bad why
 
-pub steps-once : {plan : Plan} {words ledger errors : List ℕ} {r₁ r₂ : StepsAnswer} → StepsPromise plan words ledger errors r₁ → StepsPromise plan words ledger errors r₂ → r₁ ≡ r₂
+pub steps-once : {plan : Plan} {words ledger : List ℕ} {errors : List ℤ} {r₁ r₂ : StepsAnswer} → StepsPromise plan words ledger errors r₁ → StepsPromise plan words ledger errors r₂ → r₁ ≡ r₂
 steps-once {r₁ = r₁} {r₂ = r₂} p q = one-answer stepsSays Answered Refused (λ a. refl) (λ why. refl) made r₁ r₂ (p .answer) (q .answer)
 
 -- a step that starts with another gives what either gives, the second from what the first has accepted
@@ -67,7 +68,7 @@ start-fits words ledger n beside f s split started =
     (λ (h : 0 < f .interval). start-accepted ledger n (s .start) beside f split (within (f .interval) words s (omega arith) started))
     (le-or-lt (f .interval) 0)
 
-module _ (ledger errors : List ℕ) (few : length ledger ≤ mostFileLines) (same : length errors ≡ length ledger) where
+module _ (ledger : List ℕ) (errors : List ℤ) (few : length ledger ≤ mostFileLines) (same : length errors ≡ length ledger) where
   ledger-known : Gives stepsNumbers (ledgerOf ledger (length errors))
   ledger-known = gives-among valueNumbers stepsNumbers tt (ledgerOf ledger (length errors)) (values-give ledger (length errors) (omega arith) same)
 

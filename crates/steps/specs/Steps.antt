@@ -2,10 +2,13 @@
 use Prim.Native.Nat.{ℕ, _≤_, _<_}
 use mathlib.Core.Path.{_≡_}
 use mathlib.Core.List.{List}
+use lib.IntN.{ℤ}
 use lib.ListN.{length, getD}
 use Rattle.terms.specs.Limits.{mostLines, mostTotal, mostInterval}
 use Rattle.terms.specs.Numbers.{sum}
 use Rattle.terms.specs.Outcome.{Outcome, accepted, refusedBy, after}
+use Rattle.signed.specs.declared.Part.the-variants.{Size}
+use Rattle.signed.specs.Parts.{parts}
 use Rattle.factors.specs.Levels.{levelOf}
 use Rattle.ledger.specs.Ledger.{ledgerOf}
 use Rattle.size.specs.Size.{sizeOf}
@@ -31,41 +34,41 @@ abbrev pub answersWith : Planned → Figures → Chosen → Judgement → Answer
 answersWith planned figures chosen judgement = record { planned = planned; figures = figures; chosen = chosen; judgement = judgement }
 
 -- the judgement: 14 and 15 line by line, then 16
-unfoldable pub judgedFrom : Planned → List ℕ → List ℕ → Figures → Chosen → Outcome Answers
+unfoldable pub judgedFrom : Planned → List ℕ → List ℤ → Figures → Chosen → Outcome Answers
 judgedFrom planned ledger errors figures chosen =
     after (λ judgement. accepted (answersWith planned figures chosen judgement))
     (judgeOf (planned .level) ledger (planned .draws) (chosen .start) errors (planned .te))
 
 -- the random start: 12
-unfoldable pub startedFrom : Planned → List ℕ → List ℕ → List ℕ → Figures → Outcome Answers
+unfoldable pub startedFrom : Planned → List ℕ → List ℕ → List ℤ → Figures → Outcome Answers
 startedFrom planned words ledger errors figures = after (judgedFrom planned ledger errors figures) (startOf (figures .interval) words)
 
 -- the split: 8
-unfoldable pub splitFrom : Planned → List ℕ → List ℕ → List ℕ → Outcome Answers
+unfoldable pub splitFrom : Planned → List ℕ → List ℕ → List ℤ → Outcome Answers
 splitFrom planned words ledger errors = after (startedFrom planned words ledger errors) (splitOf ledger (planned .draws) (length errors))
 
 -- the number of draws: 6, 7
-unfoldable pub sizedFrom : Plan → List ℕ → List ℕ → List ℕ → ℕ → Outcome Answers
+unfoldable pub sizedFrom : Plan → List ℕ → List ℕ → List ℤ → ℕ → Outcome Answers
 sizedFrom plan words ledger errors total =
     after (λ draws. splitFrom (plannedWith plan total draws) words ledger errors) (sizeOf (plan .level) total (plan .te) (plan .ae))
 
 -- the ledger: 2, 13, then 3 and 4 line by line, then 5
-unfoldable pub totalledFrom : Plan → List ℕ → List ℕ → List ℕ → Outcome Answers
+unfoldable pub totalledFrom : Plan → List ℕ → List ℕ → List ℤ → Outcome Answers
 totalledFrom plan words ledger errors = after (sizedFrom plan words ledger errors) (ledgerOf ledger (length errors))
 
 -- the level: 1
-unfoldable pub stepsOf : Plan → List ℕ → List ℕ → List ℕ → Outcome Answers
+unfoldable pub stepsOf : Plan → List ℕ → List ℕ → List ℤ → Outcome Answers
 stepsOf plan words ledger errors = after (λ level. totalledFrom plan words ledger errors) (levelOf (plan .level))
 
 -- what `steps` promises: the answer, and that its split has kept a draw
-pub record StepsPromise (plan : Plan) (words ledger errors : List ℕ) (r : StepsAnswer) : Type 0 where
+pub record StepsPromise (plan : Plan) (words ledger : List ℕ) (errors : List ℤ) (r : StepsAnswer) : Type 0 where
   pub answer : stepsSays r ≡ stepsOf plan words ledger errors
   pub draw-kept : (answers : Answers) → stepsSays r ≡ accepted answers → 1 ≤ answers .figures .«draws_left»
 
 -- what steps that accept have shown of the interval and the lines
-pub record Shown (J : ℕ) (ledger errors : List ℕ) : Type 0 where
+pub record Shown (J : ℕ) (ledger : List ℕ) (errors : List ℤ) : Type 0 where
   pub narrow : J ≤ mostInterval
   pub few : length ledger ≤ mostLines
   pub summed : sum ledger ≤ mostTotal
   pub same : length errors ≡ length ledger
-  pub within : (item : ℕ) → item < length ledger → getD errors item 0 ≤ getD ledger item 0
+  pub within : (item : ℕ) → item < length ledger → getD (parts Size errors) item 0 ≤ getD ledger item 0

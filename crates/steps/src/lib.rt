@@ -39,7 +39,7 @@ pub enum StepsAnswer {
 fn judged(
     planned: Planned,
     ledger: &[u64],
-    errors: &[u64],
+    errors: &[i64],
     figures: Figures,
     chosen: Chosen,
 ) -> StepsAnswer
@@ -68,7 +68,7 @@ fn started(
     planned: Planned,
     words: &[u64],
     ledger: &[u64],
-    errors: &[u64],
+    errors: &[i64],
     figures: Figures,
 ) -> StepsAnswer
     ensures { λ r. ⌜ stepsSays r ≡ startedFrom planned (now (words .entry)) (now (ledger .entry)) (now (errors .entry)) figures ⌝ }
@@ -80,7 +80,7 @@ fn started(
 }
 
 // The split: 8.
-fn parted(planned: Planned, words: &[u64], ledger: &[u64], errors: &[u64]) -> StepsAnswer
+fn parted(planned: Planned, words: &[u64], ledger: &[u64], errors: &[i64]) -> StepsAnswer
     ensures { λ r. ⌜ stepsSays r ≡ splitFrom planned (now (words .entry)) (now (ledger .entry)) (now (errors .entry)) ⌝ }
 {
     match split::split_figures(ledger, planned.draws, errors.len()) {
@@ -90,7 +90,7 @@ fn parted(planned: Planned, words: &[u64], ledger: &[u64], errors: &[u64]) -> St
 }
 
 // The number of draws: 6, 7.
-fn sized(plan: Plan, words: &[u64], ledger: &[u64], errors: &[u64], total: u64) -> StepsAnswer
+fn sized(plan: Plan, words: &[u64], ledger: &[u64], errors: &[i64], total: u64) -> StepsAnswer
     ensures { λ r. ⌜ stepsSays r ≡ sizedFrom plan (now (words .entry)) (now (ledger .entry)) (now (errors .entry)) total ⌝ }
 {
     match size::size(plan.level, total, plan.te, plan.ae) {
@@ -109,7 +109,7 @@ fn sized(plan: Plan, words: &[u64], ledger: &[u64], errors: &[u64], total: u64) 
 }
 
 // The ledger: 2, 13, then 3 and 4 line by line, then 5.
-fn totalled(plan: Plan, words: &[u64], ledger: &[u64], errors: &[u64]) -> StepsAnswer
+fn totalled(plan: Plan, words: &[u64], ledger: &[u64], errors: &[i64]) -> StepsAnswer
     ensures { λ r. ⌜ stepsSays r ≡ totalledFrom plan (now (words .entry)) (now (ledger .entry)) (now (errors .entry)) ⌝ }
 {
     match ledger::judge_ledger(ledger, errors.len()) {
@@ -119,7 +119,7 @@ fn totalled(plan: Plan, words: &[u64], ledger: &[u64], errors: &[u64]) -> StepsA
 }
 
 // All steps, from the level on: 1.
-pub fn steps(plan: Plan, words: &[u64], ledger: &[u64], errors: &[u64]) -> StepsAnswer
+pub fn steps(plan: Plan, words: &[u64], ledger: &[u64], errors: &[i64]) -> StepsAnswer
     ensures { λ r. ⌜ StepsPromise plan (now (words .entry)) (now (ledger .entry)) (now (errors .entry)) r ⌝ }
 {
     match factors::level_of(plan.level) {

@@ -4,6 +4,8 @@ use mathlib.Core.Path.{_≡_, refl, ap, ap₂, subst, sym, _∙_}
 use mathlib.Core.List.{List}
 use native.Mathlib.Omega.{arith}
 use lib.ListN.{length, set}
+use lib.IntN.{ℤ}
+use Rattle.signed.specs.Errors.{signedOf}
 use Rattle.workfile.specs.Content.{Content, mostWords, mostFileLines}
 use Rattle.workfile.specs.Decode.{tallyOf, grow, padTo, start}
 use Rattle.workfile.specs.Rules.{Rule}
@@ -25,7 +27,7 @@ module _ (c : Content) (so-far : SoFar c) where
   unfolding grow
   words-grow (Word w) old h k = over-more (c .words) old w (omega (arith, h .1))
   words-grow (Value v) old h k = refl
-  words-grow (ErrorOf l e) old h k = refl
+  words-grow (ErrorOf u l n) old h k = refl
   words-grow (End n s) old h k = refl
   words-grow Nothing old h k = refl
 
@@ -33,23 +35,23 @@ module _ (c : Content) (so-far : SoFar c) where
   unfolding grow
   values-grow (Word w) old h k = refl
   values-grow (Value v) old h k = over-more (c .values) old v (omega (arith, h .1 .0))
-  values-grow (ErrorOf l e) old h k = refl
+  values-grow (ErrorOf u l n) old h k = refl
   values-grow (End n s) old h k = refl
   values-grow Nothing old h k = refl
 
-  errors-grow : (r : FileRecord) (old : List ℕ) → Rule (tallyOf c) r → mostFileLines ≤ length old → putErrors (tallyOf c) r (over (c .errors) old) ≡ over (grow c r .errors) old
+  errors-grow : (r : FileRecord) (old : List ℤ) → Rule (tallyOf c) r → mostFileLines ≤ length old → putErrors (tallyOf c) r (over (c .errors) old) ≡ over (grow c r .errors) old
   unfolding grow
   errors-grow (Word w) old h k = refl
   errors-grow (Value v) old h k = refl
-  errors-grow (ErrorOf l e) old h k =
-      let n : length (padTo l (c .errors)) ≡ l = length-pad l (c .errors) (h .0) in
-      ap₂ (λ (y : List ℕ) (i : ℕ). set y i e) (over-zeroed (c .errors) old l (h .0)) (sym n)
-      ∙ over-more (padTo l (c .errors)) old e (omega (arith, h .1 .0, so-far .few-lines))
+  errors-grow (ErrorOf u l n) old h k =
+      let long : length (padTo l (c .errors)) ≡ l = length-pad l (c .errors) (h .0) in
+      ap₂ (λ (y : List ℤ) (i : ℕ). set y i (signedOf n u)) (over-zeroed (c .errors) old l (h .0)) (sym long)
+      ∙ over-more (padTo l (c .errors)) old (signedOf n u) (omega (arith, h .1 .0, so-far .few-lines))
   errors-grow (End n t) old h k = over-zeroed (c .errors) old n (omega (arith, h .0, so-far .sound))
   errors-grow Nothing old h k = refl
 
 -- the content c, counted as t, stands in the buffers w, v and e, which held ws, vs and es
-pub record Holds (c : Content) (t : Tally) (ws vs es w v e : List ℕ) : Type 0 where
+pub record Holds (c : Content) (t : Tally) (ws vs : List ℕ) (es : List ℤ) (w v : List ℕ) (e : List ℤ) : Type 0 where
   pub tally : tallyOf c ≡ t
   pub so-far : SoFar c
   pub words : w ≡ over (c .words) ws
@@ -57,16 +59,16 @@ pub record Holds (c : Content) (t : Tally) (ws vs es w v e : List ℕ) : Type 0 
   pub errors : e ≡ over (c .errors) es
 
 -- the same lengths as before
-pub record Lengths (ws vs es w v e : List ℕ) : Type 0 where
+pub record Lengths (ws vs : List ℕ) (es : List ℤ) (w v : List ℕ) (e : List ℤ) : Type 0 where
   pub words : length w ≡ length ws
   pub values : length v ≡ length vs
   pub errors : length e ≡ length es
 
 -- before the first record
-pub holds-none : {p : Plan} {ws vs es : List ℕ} → Holds (start p) (tallyOf (start p)) ws vs es ws vs es
+pub holds-none : {p : Plan} {ws vs : List ℕ} {es : List ℤ} → Holds (start p) (tallyOf (start p)) ws vs es ws vs es
 holds-none {p} = record { tally = refl; so-far = at-first p; words = refl; values = refl; errors = refl }
 
-module _ {c : Content} {t : Tally} {ws vs es w v e : List ℕ} (held : Holds c t ws vs es w v e) (rooms : Rooms ws vs es) where
+module _ {c : Content} {t : Tally} {ws vs w v : List ℕ} {es e : List ℤ} (held : Holds c t ws vs es w v e) (rooms : Rooms ws vs es) where
   pub lengths : Lengths ws vs es w v e
   lengths =
       let f = held .so-far in
@@ -90,7 +92,7 @@ module _ {c : Content} {t : Tally} {ws vs es w v e : List ℕ} (held : Holds c t
         record { rooms = rooms-left; rule = rule; sound = n .0; few-lines = n .1 }
 
     -- what it leaves: the content with the record
-    pub holds-more : {w′ v′ e′ : List ℕ} → Put t r w v e w′ v′ e′ → Holds (grow c r) (tallied t r) ws vs es w′ v′ e′
+    pub holds-more : {w′ v′ : List ℕ} {e′ : List ℤ} → Put t r w v e w′ v′ e′ → Holds (grow c r) (tallied t r) ws vs es w′ v′ e′
     holds-more {w′} {v′} {e′} stored =
         let h : Rule (tallyOf c) r = subst (λ (u : Tally). Rule u r) (sym (held .tally)) rule in
         let q : Put (tallyOf c) r w v e w′ v′ e′ = subst (λ (u : Tally). Put u r w v e w′ v′ e′) (sym (held .tally)) stored in

@@ -7,15 +7,15 @@ mod steps; // steps.rt: cases of the other operations
 ghost use mathlib.Core.Path.{_≡_};
 ghost use lib.ListN.{length};
 
-// Room for the lists of a case: a ledger of 100,000 lines, an error for each, and 5,000 words.
-fn numbers() -> [u64; 205_000]
-    ensures { λ r. ⌜ 205000 ≡ length r ⌝ }
+// Room for the lists of a case: a ledger of 100,000 lines, and 5,000 words.
+fn numbers() -> [u64; 105_000]
+    ensures { λ r. ⌜ 105000 ≡ length r ⌝ }
 {
-    [0; 205_000]
+    [0; 105_000]
 }
 
-// Room for the amounts of projected lines.
-fn amounts() -> [u64; 100_000]
+// Room for the errors of a case; and for the amounts of projected lines.
+fn signed_numbers() -> [i64; 100_000]
     ensures { λ r. ⌜ 100000 ≡ length r ⌝ }
 {
     [0; 100_000]
@@ -29,11 +29,18 @@ fn bytes() -> [u8; 100_000]
 }
 
 // The case of a number, by its operation.
-fn run(number: u64, case: &[u8], numbers: &mut [u64], amounts: &mut [u64], room: &mut [u8]) {
+fn run(
+    number: u64,
+    case: &[u8],
+    numbers: &mut [u64],
+    errors: &mut [i64],
+    amounts: &mut [i64],
+    room: &mut [u8],
+) {
     match feed::input::byte_at(case, 0) {
         7 => reads::run(number, case, room),
-        9 => projected::run(number, case, numbers, amounts),
-        _ => steps::run(number, case, numbers, room),
+        9 => projected::run(number, case, numbers, errors, amounts),
+        _ => steps::run(number, case, numbers, errors, room),
     }
 }
 
@@ -42,14 +49,15 @@ fn run_next(
     number: u64,
     input: &mut [u8],
     numbers: &mut [u64],
-    amounts: &mut [u64],
+    errors: &mut [i64],
+    amounts: &mut [i64],
     room: &mut [u8],
 ) -> bool {
     let case = feed::cases::next(number, input);
     if case.len() == 0 {
         return false;
     }
-    run(number, case, numbers, amounts, room);
+    run(number, case, numbers, errors, amounts, room);
     true
 }
 
@@ -57,11 +65,19 @@ fn run_next(
 fn main() {
     let mut input = io::large_buffer();
     let mut numbers = numbers();
-    let mut amounts = amounts();
+    let mut errors = signed_numbers();
+    let mut amounts = signed_numbers();
     let mut room = bytes();
     let mut number: u64 = 0;
     while number < 0xFFFF_FFFF_FFFF_FFFF
-        && run_next(number, &mut input, &mut numbers, &mut amounts, &mut room)
+        && run_next(
+            number,
+            &mut input,
+            &mut numbers,
+            &mut errors,
+            &mut amounts,
+            &mut room,
+        )
     {
         number += 1;
     }

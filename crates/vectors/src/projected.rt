@@ -4,18 +4,26 @@ use feed::fields::Case;
 use feed::lines;
 use parts::part;
 
-fn call(number: u64, case: Case, ledger: &[u64], errors: &[u64], amounts: &mut [u64]) {
+fn call(number: u64, case: Case, ledger: &[u64], errors: &[i64], amounts: &mut [i64]) {
     let answer = calls::project_lines(ledger, case.first, case.second, errors, amounts);
-    lines::tell(number, 9, answer, &[], ledger, errors, amounts);
+    lines::tell_lines(number, answer, ledger, errors, amounts);
 }
 
-pub fn run(number: u64, input: &[u8], numbers: &mut [u64], room: &mut [u64]) {
-    let lists = fields::lay_ledger(input, numbers);
+pub fn run(
+    number: u64,
+    input: &[u8],
+    numbers: &mut [u64],
+    errors: &mut [i64],
+    amounts: &mut [i64],
+) {
+    let errors = fields::errors(input, numbers, errors);
+    let amounts = fields::amounts(input, numbers, amounts);
+    let lines = fields::lay_ledger(input, numbers);
     call(
         number,
         fields::numbers(input),
-        part(numbers, 0, lists.ledger),
-        part(numbers, lists.ledger, lists.errors),
-        fields::words(input, room),
+        part(numbers, 0, lines),
+        errors,
+        amounts,
     );
 }

@@ -7,7 +7,7 @@ use feed::rooms;
 use parts::front_to_fill;
 use parts::part;
 
-fn answer(case: Case, ledger: &[u64], errors: &[u64], words: &[u64], room: &mut [u8]) -> Answer {
+fn answer(case: Case, ledger: &[u64], errors: &[i64], words: &[u64], room: &mut [u8]) -> Answer {
     let operation = case.operation;
     match operation {
         2 => calls::split(ledger, case.first, room),
@@ -35,21 +35,22 @@ fn answer(case: Case, ledger: &[u64], errors: &[u64], words: &[u64], room: &mut 
     }
 }
 
-fn call(number: u64, case: Case, ledger: &[u64], errors: &[u64], words: &[u64], room: &mut [u8]) {
+fn call(number: u64, case: Case, ledger: &[u64], errors: &[i64], words: &[u64], room: &mut [u8]) {
     rooms::fill(room);
     let answer = answer(case, ledger, errors, words, room);
     lines::tell(number, case.operation, answer, room, ledger, errors, words);
 }
 
-pub fn run(number: u64, input: &[u8], numbers: &mut [u64], room: &mut [u8]) {
+pub fn run(number: u64, input: &[u8], numbers: &mut [u64], errors: &mut [i64], room: &mut [u8]) {
+    let errors = fields::errors(input, numbers, errors);
     let lists = fields::lay(input, numbers);
     let case = fields::numbers(input);
     call(
         number,
         case,
         part(numbers, 0, lists.ledger),
-        part(numbers, lists.ledger, lists.errors),
-        part(numbers, lists.before, lists.words),
+        errors,
+        part(numbers, lists.ledger, lists.words),
         front_to_fill(room, case.room),
     );
 }

@@ -10,6 +10,7 @@ use lib.Seq.{drop-drop, getD-drop}
 use borrow.Author.Tests.{le-leb, lt-leb, ne-eqb}
 use Rattle.terms.specs.Numbers.{pick}
 use Rattle.workfile.specs.Numbers.{littleEndian}
+use Rattle.workfile.specs.Content.{errorKind}
 use Rattle.workfile.specs.Decode.{recordOf, recordAt}
 use Rattle.workfile.specs.declared.FileRecord.the-variants.{Word, Value, ErrorOf, End, Nothing}
 
@@ -44,9 +45,9 @@ module _ (f : List ℕ) (at : ℕ) where
   unfolding recordOf recordAt
   no-thirteen h p q = rw (kind-at, ne-eqb _ 0x57 p, ne-eqb _ 0x4C q, length-drop, lt-leb 13 (length f - at) h) (sym (simp either-way))
 
-  pub no-kind : (getD f at 0 ≡ 0x57 → ⊥) → (getD f at 0 ≡ 0x4C → ⊥) → (getD f at 0 ≡ 0x45 → ⊥) → (getD f at 0 ≡ 0x5A → ⊥) → Nothing ≡ recordAt f at
+  pub no-kind : (getD f at 0 ≡ 0x57 → ⊥) → (getD f at 0 ≡ 0x4C → ⊥) → (getD f at 0 ≡ 0x45 → ⊥) → (getD f at 0 ≡ 0x55 → ⊥) → (getD f at 0 ≡ 0x5A → ⊥) → Nothing ≡ recordAt f at
   unfolding recordOf recordAt
-  no-kind p q r s = rw (kind-at, ne-eqb _ 0x57 p, ne-eqb _ 0x4C q, ne-eqb _ 0x45 r, ne-eqb _ 0x5A s)
+  no-kind p q r u s = rw (kind-at, ne-eqb _ 0x57 p, ne-eqb _ 0x4C q, ne-eqb _ 0x45 r, ne-eqb _ 0x55 u, ne-eqb _ 0x5A s)
 
   pub word-at : (w : ℕ) → getD f at 0 ≡ 0x57 → 9 ≤ length f - at → w ≡ littleEndian 8 (drop (at + 1) f) → Word w ≡ recordAt f at
   unfolding recordOf recordAt
@@ -56,9 +57,10 @@ module _ (f : List ℕ) (at : ℕ) where
   unfolding recordOf recordAt
   value-at v k h e = rw (kind-at, k, length-drop, le-leb 9 (length f - at) h, drop-drop) (ap Value e)
 
-  pub error-at : (l e : ℕ) → getD f at 0 ≡ 0x45 → 13 ≤ length f - at → l ≡ littleEndian 4 (drop (at + 1) f) → e ≡ littleEndian 8 (drop (at + 5) f) → ErrorOf l e ≡ recordAt f at
+  pub error-at : (u : Bool) (l n : ℕ) → getD f at 0 ≡ errorKind u → 13 ≤ length f - at → l ≡ littleEndian 4 (drop (at + 1) f) → n ≡ littleEndian 8 (drop (at + 5) f) → ErrorOf u l n ≡ recordAt f at
   unfolding recordOf recordAt
-  error-at l e k h p q = rw (kind-at, k, length-drop, le-leb 13 (length f - at) h, drop-drop 1 at f, drop-drop 5 at f) (ap₂ ErrorOf p q)
+  error-at false l n k h p q = rw (kind-at, k, length-drop, le-leb 13 (length f - at) h, drop-drop 1 at f, drop-drop 5 at f) (ap₂ (ErrorOf false) p q)
+  error-at true l n k h p q = rw (kind-at, k, length-drop, le-leb 13 (length f - at) h, drop-drop 1 at f, drop-drop 5 at f) (ap₂ (ErrorOf true) p q)
 
   pub end-at : (n s : ℕ) → getD f at 0 ≡ 0x5A → 13 ≤ length f - at → n ≡ littleEndian 4 (drop (at + 1) f) → s ≡ littleEndian 8 (drop (at + 5) f) → End n s ≡ recordAt f at
   unfolding recordOf recordAt

@@ -36,7 +36,7 @@ one-more c (Value v) h s =
       few-lines = simp length-append (omega (arith, h .1 .0));
       total = simp sum-append (omega (arith, h .1 .1));
     }
-one-more c (ErrorOf l e) h s =
+one-more c (ErrorOf u l n) h s =
     record { sound = simp (length-append, length-replicate) (omega (arith, h .0, h .1 .0)); few-words = s .few-words; few-lines = s .few-lines; total = s .total }
 one-more c (End n t) h s =
     record { sound = rw (length-pad n (c .errors) (omega (arith, h .0, s .sound))) (omega (arith, h .0)); few-words = s .few-words; few-lines = s .few-lines; total = s .total }
@@ -47,7 +47,7 @@ pub plan-grow : (c : Content) (r : FileRecord) → (grow c r) .plan ≡ c .plan
 unfolding grow
 plan-grow c (Word w) = refl
 plan-grow c (Value v) = refl
-plan-grow c (ErrorOf l e) = refl
+plan-grow c (ErrorOf u l n) = refl
 plan-grow c (End n s) = refl
 plan-grow c Nothing = refl
 
@@ -61,7 +61,7 @@ between-grow c (Word w) h s i =
 between-grow c (Value x) h s i =
     let e : c .errors ≡ [] = nil-of-length (c .errors) (h .0) in
     rw e (simp (map-append, append-nil, append-assoc))
-between-grow c (ErrorOf l e) h s i = rw (errors-more l e (c .errors) (h .0) (h .1 .1)) (simp append-assoc)
+between-grow c (ErrorOf u l n) h s i = rw (errors-more u l n (c .errors) (h .0) (h .1 .1 .0)) (simp append-assoc)
 between-grow c (End n t) h s i = absurd (let z : _≡_ {A = ℕ} 0 1 = cc in omega arith)
 between-grow c Nothing h s i = absurd h
 

@@ -4,6 +4,7 @@ use native.Mathlib.Omega.{arith}
 use mathlib.Core.Path.{_≡_, sym, ap, _∙_}
 use mathlib.Core.List.{List, [], _∷_}
 use lib.ListN.{length, take, replicate}
+use lib.IntN.{ℤ, pos}
 use Rattle.terms.specs.declared.Refusal.{Refusal}
 use Rattle.terms.specs.Refusals.{number, place}
 use Rattle.terms.specs.Outcome.{accepted, refused}
@@ -17,34 +18,34 @@ use Rattle.workfile.specs.declared.ReadAnswer.the-variants.{Read, Refuse
 use Rattle.workfile.proofs.OneFile.{read-counts}
 use Rattle.workfile.proofs.Promises.{roomy, heldBy, held}
 
-take-short : (n : ℕ) (l : List ℕ) → length (take n l) ≤ length l
+take-short : {A : Type 0} (n : ℕ) (l : List A) → length (take n l) ≤ length l
 take-short zero l = omega arith
 take-short (suc n) [] = omega arith
 take-short (suc n) (x ∷ l) = omega (arith, take-short n l)
 
 -- empty buffers of the largest counts hold every legal file
-pub empty-rooms : Rooms (replicate mostWords 0) (replicate mostFileLines 0) (replicate mostFileLines 0)
+pub empty-rooms : Rooms (replicate mostWords 0) (replicate mostFileLines 0) (replicate mostFileLines (pos 0))
 empty-rooms = record { words = omega arith; values = omega arith; errors = omega arith }
 
 -- with room for every legal file the answer is what the file decides
-decoded : {file w v e w′ v′ e′ : List ℕ} {r : ReadAnswer} → Rooms w v e → ReadPromise file w v e r w′ v′ e′ → readSays r ≡ countsOf (decode file)
+decoded : {file w v w′ v′ : List ℕ} {e e′ : List ℤ} {r : ReadAnswer} → Rooms w v e → ReadPromise file w v e r w′ v′ e′ → readSays r ≡ countsOf (decode file)
 decoded {file} {w} {v} {e} rooms p = p .answer ∙ ap countsOf (roomy file w v e rooms)
 
-pub read-refused : {file w v e w′ v′ e′ : List ℕ} {r : ReadAnswer} → Rooms w v e → ReadPromise file w v e r w′ v′ e′ → (why : Refusal) → r ≡ Refused why →
+pub read-refused : {file w v w′ v′ : List ℕ} {e e′ : List ℤ} {r : ReadAnswer} → Rooms w v e → ReadPromise file w v e r w′ v′ e′ → (why : Refusal) → r ≡ Refused why →
     decode file ≡ refused (number why) (place why)
 read-refused {file} rooms p why is = refused-first counted (decode file) (sym (ap readSays is) ∙ decoded rooms p)
 
 -- where a file was read: the buffers and the answer
-pub record AtRead (file : List ℕ) (k : Contents) (words′ values′ errors′ : List ℕ) : Type 0 where
+pub record AtRead (file : List ℕ) (k : Contents) (words′ values′ : List ℕ) (errors′ : List ℤ) : Type 0 where
   pub words : List ℕ
   pub values : List ℕ
-  pub errors : List ℕ
+  pub errors : List ℤ
   pub answer : ReadAnswer
   pub rooms : Rooms words values errors
   pub promise : ReadPromise file words values errors answer words′ values′ errors′
   pub told : answer ≡ Read k
 
-module _ {file : List ℕ} {k : Contents} {w v e : List ℕ} (at : AtRead file k w v e) where
+module _ {file : List ℕ} {k : Contents} {w v : List ℕ} {e : List ℤ} (at : AtRead file k w v e) where
   pub decodes : decode file ≡ accepted (heldBy k w v e)
   decodes = held k (at .promise) (ap readSays (at .told))
 

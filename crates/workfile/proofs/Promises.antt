@@ -4,6 +4,7 @@ use Prim.Native.Nat.{ℕ, _<_, _≤_}
 use mathlib.Core.Path.{_≡_, refl, ap, sym, _∙_}
 use mathlib.Core.List.{List}
 use lib.Dec.{eqb, ltb}
+use lib.IntN.{ℤ}
 use borrow.Author.Tests.{eqb-true, ltb-true, leb-true, lt-ltb, le-ltb, le-leb, lt-leb, eq-eqb, ne-eqb}
 use lib.ListN.{length, take, drop}
 use lib.Seq.{take-at}
@@ -43,12 +44,12 @@ pub write-answer : {o : Outcome ℕ} (r s : WriteAnswer) → writeSays r ≡ o �
 write-answer = one-answer writeSays write.Written write.Refused (λ a. refl) (λ why. refl) write-made
 
 -- any two results that meet a promise agree
-pub read-once : {f w v e w₁ v₁ e₁ w₂ v₂ e₂ : List ℕ} {r₁ r₂ : ReadAnswer} → ReadPromise f w v e r₁ w₁ v₁ e₁ → ReadPromise f w v e r₂ w₂ v₂ e₂
+pub read-once : {f w v w₁ v₁ w₂ v₂ : List ℕ} {e e₁ e₂ : List ℤ} {r₁ r₂ : ReadAnswer} → ReadPromise f w v e r₁ w₁ v₁ e₁ → ReadPromise f w v e r₂ w₂ v₂ e₂
     → (r₁ ≡ r₂) × (w₁ ≡ w₂) × (v₁ ≡ v₂) × (e₁ ≡ e₂)
 read-once {r₁} {r₂} p q =
     (read-answer r₁ r₂ (p .answer) (q .answer), p .words-left ∙ sym (q .words-left), p .values-left ∙ sym (q .values-left), p .errors-left ∙ sym (q .errors-left))
 
-pub write-once : {plan : Plan} {w v e f f₁ f₂ : List ℕ} {r₁ r₂ : WriteAnswer} → WritePromise plan w v e f r₁ f₁ → WritePromise plan w v e f r₂ f₂ → (r₁ ≡ r₂) × (f₁ ≡ f₂)
+pub write-once : {plan : Plan} {w v f f₁ f₂ : List ℕ} {e : List ℤ} {r₁ r₂ : WriteAnswer} → WritePromise plan w v e f r₁ f₁ → WritePromise plan w v e f r₂ f₂ → (r₁ ≡ r₂) × (f₁ ≡ f₂)
 write-once {r₁} {r₂} p q = (write-answer r₁ r₂ (p .answer) (q .answer), p .file-left ∙ sym (q .file-left))
 
 -- the room comes first
@@ -65,7 +66,7 @@ unfolding readOf
 short-errors f w v e a b h = rw (le-ltb w mostWords a, le-ltb v mostFileLines b, lt-ltb e mostFileLines h) refl
 
 -- with room enough the file decides
-pub roomy : (f w v e : List ℕ) → Rooms w v e → readOf f (length w) (length v) (length e) ≡ decode f
+pub roomy : (f w v : List ℕ) (e : List ℤ) → Rooms w v e → readOf f (length w) (length v) (length e) ≡ decode f
 unfolding readOf
 roomy f w v e m =
     rw (le-ltb (length w) mostWords (m .words), le-ltb (length v) mostFileLines (m .values), le-ltb (length e) mostFileLines (m .errors))
@@ -147,15 +148,15 @@ read-writes f d room b e h =
     counts-write d room (read-counts f d e) l ∙ ap accepted o
 
 -- what the buffers hold after an answer with these counts
-abbrev pub heldBy : Contents → List ℕ → List ℕ → List ℕ → Content
+abbrev pub heldBy : Contents → List ℕ → List ℕ → List ℤ → Content
 heldBy k w v e = contentWith (planWith (k .level) (k .te) (k .ae)) (take (k .words) w) (take (k .lines) v) (take (k .lines) e)
 
-front-of : (new old : List ℕ) (n : ℕ) → length new ≡ n → take n (over new old) ≡ new
+front-of : {A : Type 0} (new old : List A) (n : ℕ) → length new ≡ n → take n (over new old) ≡ new
 front-of new old n e = take-at new (drop (length new) old) n e
 
 -- an accepted read leaves the file's content in the buffers
-pub held : {f w v e w′ v′ e′ : List ℕ} {r : ReadAnswer} (k : Contents) → ReadPromise f w v e r w′ v′ e′ → readSays r ≡ accepted k → decode f ≡ accepted (heldBy k w′ v′ e′)
-held {f} {w} {v} {e} {w′} {v′} {e′} k p a =
+pub held : {f w v w′ v′ : List ℕ} {e e′ : List ℤ} {r : ReadAnswer} (k : Contents) → ReadPromise f w v e r w′ v′ e′ → readSays r ≡ accepted k → decode f ≡ accepted (heldBy k w′ v′ e′)
+held {f} {w} {v} {w′} {v′} {e} {e′} k p a =
     let o = readOf f (length w) (length v) (length e) in
     let q = after-accepted (λ c. accepted (counted c)) o k (sym (p .answer) ∙ a) in
     let d = q .0 in
@@ -173,11 +174,11 @@ held {f} {w} {v} {e} {w′} {v′} {e′} k p a =
     decoded ∙ ap accepted same
 
 -- a file that the writer wrote, read with room enough, gives the answer and the buffers of what was handed to the writer
-pub written-is-read : {plan : Plan} {ws vs es file file′ w v e w′ v′ e′ : List ℕ} {r : WriteAnswer} {q : ReadAnswer} (n : ℕ)
+pub written-is-read : {plan : Plan} {ws vs file file′ w v w′ v′ : List ℕ} {es e e′ : List ℤ} {r : WriteAnswer} {q : ReadAnswer} (n : ℕ)
     → Fit (contentWith plan ws vs es) → WritePromise plan ws vs es file r file′ → writeSays r ≡ accepted n
     → Rooms w v e → ReadPromise (take n file′) w v e q w′ v′ e′
     → (readSays q ≡ accepted (counted (contentWith plan ws vs es))) × (w′ ≡ over ws w) × (v′ ≡ over vs v) × (e′ ≡ over es e)
-written-is-read {plan} {ws} {vs} {es} {file} {file′} {w} {v} {e} n f p a m q =
+written-is-read {plan} {ws} {vs} {file} {file′} {w} {v} {es} {e} n f p a m q =
     let c = contentWith plan ws vs es in
     let x = after-accepted (λ bs. accepted (length bs)) (writeOf c (length file)) n (sym (p .answer) ∙ a) in
     let bs = x .0 in
@@ -192,19 +193,19 @@ written-is-read {plan} {ws} {vs} {es} {file} {file′} {w} {v} {e} n f p a m q =
     )
 
 -- what was read of a legal file, handed to the writer with room enough, is written as that file
-pub read-is-written : {f w v e w′ v′ e′ file file′ : List ℕ} {r : ReadAnswer} {q : WriteAnswer} (k : Contents)
+pub read-is-written : {f w v w′ v′ file file′ : List ℕ} {e e′ : List ℤ} {r : ReadAnswer} {q : WriteAnswer} (k : Contents)
     → Bytes f → ReadPromise f w v e r w′ v′ e′ → readSays r ≡ accepted k → length f ≤ length file
     → WritePromise (planWith (k .level) (k .te) (k .ae)) (take (k .words) w′) (take (k .lines) v′) (take (k .lines) e′) file q file′
     → (writeSays q ≡ accepted (length f)) × (file′ ≡ over f file)
-read-is-written {f} {w} {v} {e} {w′} {v′} {e′} {file} k b p a room q =
+read-is-written {f} {w′} {v′} {file} {e′} k b p a room q =
     let o = read-writes f (heldBy k w′ v′ e′) (length file) b (held k p a) room in
     (q .answer ∙ ap (after (λ bs. accepted (length bs))) o, q .file-left ∙ ap (left (λ bs. over bs file) file) o)
 
 -- two files that read to the same answer and the same entries are the same bytes
-pub read-of-one-file : {f g w v e w₁ v₁ e₁ w₂ v₂ e₂ : List ℕ} {r q : ReadAnswer} (k : Contents) → Bytes f → Bytes g
+pub read-of-one-file : {f g w v w₁ v₁ w₂ v₂ : List ℕ} {e e₁ e₂ : List ℤ} {r q : ReadAnswer} (k : Contents) → Bytes f → Bytes g
     → ReadPromise f w v e r w₁ v₁ e₁ → ReadPromise g w v e q w₂ v₂ e₂ → readSays r ≡ accepted k → readSays q ≡ accepted k
     → heldBy k w₁ v₁ e₁ ≡ heldBy k w₂ v₂ e₂ → f ≡ g
-read-of-one-file {f} {g} {w₁} {v₁} {e₁} {w₂} {v₂} {e₂} k bf bg p q a c same =
+read-of-one-file {f} {g} {w₁} {v₁} {e₁} k bf bg p q a c same =
     no-second-file f g (heldBy k w₁ v₁ e₁) bf bg (held k p a) (held k q c ∙ ap accepted (sym same))
 
 -- an input is read as its first 45,664 bytes are
@@ -212,7 +213,7 @@ first-read : (f : List ℕ) (w v e : ℕ) → readOf f w v e ≡ readOf (take 45
 unfolding readOf
 first-read f w v e = ap (withRoom w v e) (first-decide f)
 
-pub first-bytes : {f w v e w′ v′ e′ : List ℕ} {r : ReadAnswer} → ReadPromise f w v e r w′ v′ e′ → ReadPromise (take 45664 f) w v e r w′ v′ e′
+pub first-bytes : {f w v w′ v′ : List ℕ} {e e′ : List ℤ} {r : ReadAnswer} → ReadPromise f w v e r w′ v′ e′ → ReadPromise (take 45664 f) w v e r w′ v′ e′
 first-bytes {f} {w} {v} {e} p =
     let o = first-read f (length w) (length v) (length e) in
     record {

@@ -1,7 +1,7 @@
 -- A record and its bytes: each is found again from the other, and no byte past a record decides it. Assumes nothing.
 use Prim.Native.Nat.{ℕ, zero, suc, _+_, _-_, _^_, _<_, _≤_}
 use mathlib.Core.Path.{_≡_, refl, ap, ap₂, sym, _∙_}
-use mathlib.Core.Bool.{true}
+use mathlib.Core.Bool.{Bool, true, false}
 use mathlib.Core.List.{List, [], _∷_, _++_}
 use native.Mathlib.Omega.{arith}
 use lib.Dec.{leb, eqb}
@@ -10,7 +10,7 @@ use lib.ListN.{length, getD, take, drop, length-drop}
 use lib.Seq.{take-add, getD-drop, getD-take, take-nil, length-take-le}
 use Rattle.terms.proofs.Tests.{by-test}
 use Rattle.workfile.specs.Numbers.{littleEndian, bytes, Bytes}
-use Rattle.workfile.specs.Content.{bytesOf}
+use Rattle.workfile.specs.Content.{errorKind, bytesOf}
 use Rattle.workfile.specs.Decode.{size, recordOf}
 use Rattle.workfile.specs.declared.FileRecord.{FileRecord}
 use Rattle.workfile.specs.declared.FileRecord.the-variants.{Word, Value, ErrorOf, End, Nothing}
@@ -20,7 +20,7 @@ use Rattle.workfile.proofs.Numbers.{number-again, bytes-again, number-o
 abbrev pub Good : FileRecord → Type 0
 Good (Word w) = w < 256 ^ 8
 Good (Value v) = v < 256 ^ 8
-Good (ErrorOf l e) = (l < 256 ^ 4) × (e < 256 ^ 8)
+Good (ErrorOf u l n) = (l < 256 ^ 4) × (n < 256 ^ 8)
 Good (End n s) = (n < 256 ^ 4) × (s < 256 ^ 8)
 Good Nothing = ⊥
 
@@ -28,8 +28,10 @@ pub record-again : (r : FileRecord) (rest : List ℕ) → Good r → recordOf (b
 unfolding recordOf
 record-again (Word w) rest h = rw (le-leb 9 (length (bytesOf (Word w) ++ rest)) (omega arith)) (ap Word (number-again 8 w rest h))
 record-again (Value v) rest h = rw (le-leb 9 (length (bytesOf (Value v) ++ rest)) (omega arith)) (ap Value (number-again 8 v rest h))
-record-again (ErrorOf l e) rest h =
-    rw (le-leb 13 (length (bytesOf (ErrorOf l e) ++ rest)) (omega arith)) (cc (number-again 4 l (bytes 8 e ++ rest) (h .0), number-again 8 e rest (h .1)))
+record-again (ErrorOf false l n) rest h =
+    rw (le-leb 13 (length (bytesOf (ErrorOf false l n) ++ rest)) (omega arith)) (cc (number-again 4 l (bytes 8 n ++ rest) (h .0), number-again 8 n rest (h .1)))
+record-again (ErrorOf true l n) rest h =
+    rw (le-leb 13 (length (bytesOf (ErrorOf true l n) ++ rest)) (omega arith)) (cc (number-again 4 l (bytes 8 n ++ rest) (h .0), number-again 8 n rest (h .1)))
 record-again (End n s) rest h =
     rw (le-leb 13 (length (bytesOf (End n s) ++ rest)) (omega arith)) (cc (number-again 4 n (bytes 8 s ++ rest) (h .0), number-again 8 s rest (h .1)))
 record-again Nothing rest h = absurd h
@@ -37,14 +39,14 @@ record-again Nothing rest h = absurd h
 pub skip : (r : FileRecord) (rest : List ℕ) → drop (size r) (bytesOf r ++ rest) ≡ rest
 skip (Word w) rest = refl
 skip (Value v) rest = refl
-skip (ErrorOf l e) rest = refl
+skip (ErrorOf u l n) rest = refl
 skip (End n s) rest = refl
 skip Nothing rest = refl
 
 pub length-record : (r : FileRecord) → length (bytesOf r) ≡ size r
 length-record (Word w) = refl
 length-record (Value v) = refl
-length-record (ErrorOf l e) = refl
+length-record (ErrorOf u l n) = refl
 length-record (End n s) = refl
 length-record Nothing = refl
 
@@ -67,26 +69,27 @@ two-numbers k x bs b e h =
 by-kind : (P : FileRecord → Type 0) (bs : List ℕ)
     → (eqb (getD bs 0 0) 0x57 ≡ true → leb 9 (length bs) ≡ true → P (Word (littleEndian 8 (drop 1 bs))))
     → (eqb (getD bs 0 0) 0x4C ≡ true → leb 9 (length bs) ≡ true → P (Value (littleEndian 8 (drop 1 bs))))
-    → (eqb (getD bs 0 0) 0x45 ≡ true → leb 13 (length bs) ≡ true → P (ErrorOf (littleEndian 4 (drop 1 bs)) (littleEndian 8 (drop 5 bs))))
+    → ((u : Bool) → eqb (getD bs 0 0) (errorKind u) ≡ true → leb 13 (length bs) ≡ true → P (ErrorOf u (littleEndian 4 (drop 1 bs)) (littleEndian 8 (drop 5 bs))))
     → (eqb (getD bs 0 0) 0x5A ≡ true → leb 13 (length bs) ≡ true → P (End (littleEndian 4 (drop 1 bs)) (littleEndian 8 (drop 5 bs))))
     → P Nothing → P (recordOf bs)
 unfolding recordOf
 by-kind P bs w v e z n =
     by-test P (eqb (getD bs 0 0) 0x57) (λ k. by-test P (leb 9 (length bs)) (w k) (λ _. n))
     (λ _. by-test P (eqb (getD bs 0 0) 0x4C) (λ k. by-test P (leb 9 (length bs)) (v k) (λ _. n))
-    (λ _. by-test P (eqb (getD bs 0 0) 0x45) (λ k. by-test P (leb 13 (length bs)) (e k) (λ _. n))
-    (λ _. by-test P (eqb (getD bs 0 0) 0x5A) (λ k. by-test P (leb 13 (length bs)) (z k) (λ _. n)) (λ _. n))))
+    (λ _. by-test P (eqb (getD bs 0 0) 0x45) (λ k. by-test P (leb 13 (length bs)) (e false k) (λ _. n))
+    (λ _. by-test P (eqb (getD bs 0 0) 0x55) (λ k. by-test P (leb 13 (length bs)) (e true k) (λ _. n))
+    (λ _. by-test P (eqb (getD bs 0 0) 0x5A) (λ k. by-test P (leb 13 (length bs)) (z k) (λ _. n)) (λ _. n)))))
 
 pub its-bytes : (bs : List ℕ) → Bytes bs → bytesOf (recordOf bs) ≡ take (size (recordOf bs)) bs
 unfolding recordOf
 its-bytes [] b = refl
 its-bytes (x ∷ bs) b =
     by-kind (λ r. bytesOf r ≡ take (size r) (x ∷ bs)) (x ∷ bs) (λ k h. one-number 0x57 x bs b k h) (λ k h. one-number 0x4C x bs b k h)
-    (λ k h. two-numbers 0x45 x bs b k h) (λ k h. two-numbers 0x5A x bs b k h) refl
+    (λ u k h. two-numbers (errorKind u) x bs b k h) (λ k h. two-numbers 0x5A x bs b k h) refl
 
 pub whole-size : (bs : List ℕ) → size (recordOf bs) ≤ length bs
 whole-size bs =
-    by-kind (λ r. size r ≤ length bs) bs (λ k h. leb-true 9 (length bs) h) (λ k h. leb-true 9 (length bs) h) (λ k h. leb-true 13 (length bs) h)
+    by-kind (λ r. size r ≤ length bs) bs (λ k h. leb-true 9 (length bs) h) (λ k h. leb-true 9 (length bs) h) (λ u k h. leb-true 13 (length bs) h)
     (λ k h. leb-true 13 (length bs) h) (omega arith)
 
 pub drop-take : (j m : ℕ) (l : List ℕ) → drop j (take m l) ≡ take (m - j) (drop j l)

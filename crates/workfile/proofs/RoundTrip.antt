@@ -1,16 +1,21 @@
 -- The file of a content reads back to that content. Assumes nothing.
 use Prim.Native.Nat.{ℕ, zero, suc, _+_, _^_, _<_, _≤_}
-use mathlib.Core.Path.{_≡_, refl, ap, sym, _∙_}
+use mathlib.Core.Path.{_≡_, refl, ap, subst, sym, _∙_}
 use mathlib.Core.List.{List, [], _∷_, _++_, map, append-nil, append-assoc}
 use mathlib.Core.Bool.{Bool, true, false}
+use mathlib.Core.Logic.{⊎-elim}
 use native.Mathlib.Omega.{arith}
 use borrow.Author.Tests.{le-leb}
 use lib.ListN.{length, getD, length-append, length-replicate}
+use lib.IntN.{ℤ}
 use Rattle.terms.specs.Outcome.{accepted, refused}
 use Rattle.terms.specs.Numbers.{pick, sum}
 use Rattle.terms.proofs.Sums.{sum-append}
+use Rattle.terms.proofs.Tests.{le-or-lt}
+use Rattle.signed.specs.Errors.{sizeOf, isUnder, signedOf, Holdable, AllHeld}
+use Rattle.signed.proofs.Laws.{same-error, no-error, most-size}
 use Rattle.workfile.specs.Numbers.{bytes}
-use Rattle.workfile.specs.Content.{Content, mostWords, mostFileLines, sumBound, planBytes, bytesOf, bytesOfAll, errorRecords, between, closing, encode, Counts}
+use Rattle.workfile.specs.Content.{Content, mostWords, mostFileLines, sumBound, planBytes, bytesOf, bytesOfAll, errorRecord, errorRecords, between, closing, encode, Counts}
 use Rattle.workfile.specs.Decode.{size, isEnd, tallyOf, grow, padTo, withErrors, run, hasPlan, planOf, start, decode}
 use Rattle.workfile.specs.Rules.{Rule}
 use Rattle.workfile.specs.declared.Plan.{Plan}
@@ -19,7 +24,7 @@ use Rattle.workfile.specs.declared.FileRecord.the-variants.{Word, Value,
 use Rattle.workfile.proofs.Numbers.{number-again}
 use Rattle.workfile.proofs.Records.{Good, record-again, skip, length-record}
 use Rattle.workfile.proofs.Rules.{fitted, some-size}
-use Rattle.workfile.proofs.Lists.{pad-skip, pad-take}
+use Rattle.workfile.proofs.Lists.{some-record, pad-skip, pad-take}
 
 -- the numbers of a content fit their bytes, as those of lent slices do
 abbrev pub Below : List ℕ → Type 0
@@ -30,7 +35,7 @@ pub record Fit (c : Content) : Type 0 where
   pub ae : c .plan .ae < 2 ^ 64
   pub words : Below (c .words)
   pub values : Below (c .values)
-  pub errors : Below (c .errors)
+  pub errors : AllHeld (c .errors)
 
 -- the records rs, none of them Z, lead from one content to another
 data Reach : Content → List FileRecord → Content → Type 0 where
@@ -72,25 +77,48 @@ all-values c (v ∷ vs) b e h s =
     more {c = c} {r = Value v} (b 0) (ap length e, (omega arith, omega arith)) refl
     (rw append-assoc at (all-values (grow c (Value v)) vs (λ i. b (suc i)) e (simp length-append (omega arith)) (simp sum-append (omega arith))))
 
+-- what the records of the errors es, of the lines from i on, lead to: the errors fs, which are those before and es
+abbrev Entered : Content → ℕ → List ℤ → Type 0
+Entered c i es =
+    (fs : List ℤ) × (length fs ≤ i + length es) × (padTo (i + length es) fs ≡ padTo i (c .errors) ++ es) × Reach c (errorRecords i es) (withErrors c fs)
+
+-- an error of 0 has no record
+passed-over : (c : Content) (i : ℕ) (e : ℤ) (es : List ℤ) → sizeOf e ≡ 0 → length (c .errors) ≤ i → Entered c (suc i) es → Entered c i (e ∷ es)
+passed-over c i e es none l q =
+    let z : i + suc (length es) ≡ suc i + length es = omega arith in (
+      q .0,
+      omega (arith, q .1),
+      ap (λ (n : ℕ). padTo n (q .0)) z ∙ q .2 ∙ pad-skip i (c .errors) es l ∙ ap (λ (x : ℤ). padTo i (c .errors) ++ (x ∷ es)) (sym (no-error e none)),
+      subst (λ (rs : List FileRecord). Reach c rs (withErrors c (q .0))) (ap (λ (n : ℕ). errorRecord i (isUnder e) n ++ errorRecords (suc i) es) (sym none)) (q .3),
+    )
+
+-- any other has one, of its kind
+entered : (c : Content) (i : ℕ) (e : ℤ) (es : List ℤ) → 0 < sizeOf e → Holdable e → length (c .errors) ≤ i → i < length (c .values) → length (c .values) ≤ mostFileLines
+    → Entered (grow c (ErrorOf (isUnder e) i (sizeOf e))) (suc i) es → Entered c i (e ∷ es)
+unfolding grow
+entered c i e es some held l h m q =
+    let z : i + suc (length es) ≡ suc i + length es = omega arith in
+    let fits : sizeOf e < 256 ^ 8 = omega (arith, most-size (isUnder e)) in (
+      q .0,
+      omega (arith, q .1),
+      ap (λ (n : ℕ). padTo n (q .0)) z ∙ q .2 ∙ pad-take i (signedOf (sizeOf e) (isUnder e)) (c .errors) es l
+          ∙ ap (λ (x : ℤ). padTo i (c .errors) ++ (x ∷ es)) (same-error e),
+      subst (λ (rs : List FileRecord). Reach c (rs ++ errorRecords (suc i) es) (withErrors c (q .0))) (sym (some-record i (isUnder e) (sizeOf e) some))
+          (more {c = c} {r = ErrorOf (isUnder e) i (sizeOf e)} (omega arith, fits) (l, (h, (some, held))) refl (q .3)),
+    )
+
 -- the errors es of the lines from i on, where c's are those before
-all-errors : (c : Content) (i : ℕ) (es : List ℕ) → Below es → length (c .errors) ≤ i → i + length es ≤ length (c .values) → length (c .values) ≤ mostFileLines
-    → (fs : List ℕ) × (length fs ≤ i + length es) × (padTo (i + length es) fs ≡ padTo i (c .errors) ++ es) × Reach c (errorRecords i es) (withErrors c fs)
+all-errors : (c : Content) (i : ℕ) (es : List ℤ) → AllHeld es → length (c .errors) ≤ i → i + length es ≤ length (c .values) → length (c .values) ≤ mostFileLines → Entered c i es
 unfolding grow
 all-errors c i [] b l h m =
     let z : i + 0 ≡ i = omega arith in
     (c .errors, omega arith, ap (λ (n : ℕ). padTo n (c .errors)) z ∙ sym (append-nil (padTo i (c .errors))), here)
-all-errors c i (zero ∷ es) b l h m =
-    let z : i + suc (length es) ≡ suc i + length es = omega arith in
-    let q = all-errors c (suc i) es (λ j. b (suc j)) (omega arith) (omega arith) m in
-    (q .0, omega (arith, q .1), ap (λ (n : ℕ). padTo n (q .0)) z ∙ q .2 ∙ pad-skip i (c .errors) es l, q .3)
-all-errors c i (suc e ∷ es) b l h m =
-    let z : i + suc (length es) ≡ suc i + length es = omega arith in
-    let q = all-errors (grow c (ErrorOf i (suc e))) (suc i) es (λ j. b (suc j)) (simp (length-append, length-replicate) (omega arith)) (omega arith) m in (
-      q .0,
-      omega (arith, q .1),
-      ap (λ (n : ℕ). padTo n (q .0)) z ∙ q .2 ∙ pad-take i (suc e) (c .errors) es l,
-      more {c = c} {r = ErrorOf i (suc e)} (omega arith, b 0) (l, (omega arith, omega arith)) refl (q .3),
-    )
+all-errors c i (e ∷ es) b l h m =
+    ⊎-elim
+    (λ none. passed-over c i e es (omega arith) l (all-errors c (suc i) es (λ j. b (suc j)) (omega arith) (omega arith) m))
+    (λ some. entered c i e es some (b 0) l (omega arith) m
+    (all-errors (grow c (ErrorOf (isUnder e) i (sizeOf e))) (suc i) es (λ j. b (suc j)) (simp (length-append, length-replicate) (omega arith)) (omega arith) m))
+    (le-or-lt (sizeOf e) 0)
 
 -- P, as it is read
 plan-again : (p : Plan) (rest : List ℕ) → p .te < 2 ^ 64 → p .ae < 2 ^ 64 → planOf (planBytes p ++ rest) ≡ p
@@ -116,7 +144,7 @@ through c f l k at h =
     let r = reach-run (then (then w v) (q .3)) k at (bytesOf (closing c)) h in
     let z : length (c .values) ≡ 0 + length (c .errors) = omega (arith, l .same) in
     r .3 ∙ closes (withErrors c₂ (q .0)) (r .0) (r .1) (omega (arith, l .few-lines), l .total) (r .2)
-    ∙ ap (λ (es : List ℕ). accepted (withErrors c₂ es)) (ap (λ (n : ℕ). padTo n (q .0)) z ∙ q .2)
+    ∙ ap (λ (es : List ℤ). accepted (withErrors c₂ es)) (ap (λ (n : ℕ). padTo n (q .0)) z ∙ q .2)
 
 -- what is written reads back to the same content
 pub round-trip : (c : Content) → Fit c → Counts c → decode (encode c) ≡ accepted c

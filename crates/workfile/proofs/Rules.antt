@@ -21,7 +21,7 @@ pub rule : (t : Tally) (r : FileRecord) → fits t r ≡ true → Rule t r
 unfolding fits
 rule t (Word w) e = both _ _ (eqb-true _ _) (ltb-true _ _) e
 rule t (Value v) e = both _ _ (eqb-true _ _) (both _ _ (ltb-true _ _) (ltb-true _ _)) e
-rule t (ErrorOf l x) e = both _ _ (leb-true _ _) (both _ _ (ltb-true _ _) (ltb-true _ _)) e
+rule t (ErrorOf u l n) e = both _ _ (leb-true _ _) (both _ _ (ltb-true _ _) (both _ _ (ltb-true _ _) (leb-true _ _))) e
 rule t (End n s) e = both _ _ (eqb-true _ _) (eqb-true _ _) e
 rule t Nothing e = let z : _≡_ {A = ℕ} 0 1 = cc in omega arith
 
@@ -29,7 +29,7 @@ pub fitted : (t : Tally) (r : FileRecord) → Rule t r → fits t r ≡ true
 unfolding fits
 fitted t (Word w) h = and-true _ _ (eq-eqb _ _ (h .0)) (lt-ltb _ _ (h .1))
 fitted t (Value v) h = and-true _ _ (eq-eqb _ _ (h .0)) (and-true _ _ (lt-ltb _ _ (h .1 .0)) (lt-ltb _ _ (h .1 .1)))
-fitted t (ErrorOf l e) h = and-true _ _ (le-leb _ _ (h .0)) (and-true _ _ (lt-ltb _ _ (h .1 .0)) (lt-ltb _ _ (h .1 .1)))
+fitted t (ErrorOf u l n) h = and-true _ _ (le-leb _ _ (h .0)) (and-true _ _ (lt-ltb _ _ (h .1 .0)) (and-true _ _ (lt-ltb _ _ (h .1 .1 .0)) (le-leb _ _ (h .1 .1 .1))))
 fitted t (End n s) h = and-true _ _ (eq-eqb _ _ (h .0)) (eq-eqb _ _ (h .1))
 fitted t Nothing h = absurd h
 
@@ -45,7 +45,7 @@ is-last t r g f = go (isEnd r) (rw f at g)
 pub is-end : (r : FileRecord) → isEnd r ≡ true → (n : ℕ) × (s : ℕ) × (r ≡ End n s)
 is-end (Word w) e = absurd (let z : _≡_ {A = ℕ} 0 1 = cc in omega arith)
 is-end (Value v) e = absurd (let z : _≡_ {A = ℕ} 0 1 = cc in omega arith)
-is-end (ErrorOf l x) e = absurd (let z : _≡_ {A = ℕ} 0 1 = cc in omega arith)
+is-end (ErrorOf u l n) e = absurd (let z : _≡_ {A = ℕ} 0 1 = cc in omega arith)
 is-end (End n s) e = (n, s, refl)
 is-end Nothing e = absurd (let z : _≡_ {A = ℕ} 0 1 = cc in omega arith)
 
@@ -53,6 +53,6 @@ is-end Nothing e = absurd (let z : _≡_ {A = ℕ} 0 1 = cc in omega arith)
 pub some-size : (t : Tally) (r : FileRecord) → Rule t r → 9 ≤ size r
 some-size t (Word w) h = omega arith
 some-size t (Value v) h = omega arith
-some-size t (ErrorOf l e) h = omega arith
+some-size t (ErrorOf u l n) h = omega arith
 some-size t (End n s) h = omega arith
 some-size t Nothing h = absurd h

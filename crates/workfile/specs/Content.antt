@@ -1,9 +1,12 @@
 -- What a working file holds, and the file of a content. Definitions: nothing is assumed.
 use Prim.Native.Nat.{ℕ, zero, suc, _^_, _<_, _≤_}
 use mathlib.Core.Path.{_≡_}
+use mathlib.Core.Bool.{Bool, true, false}
 use mathlib.Core.List.{List, [], _∷_, _++_, map}
+use lib.IntN.{ℤ}
 use lib.ListN.{length}
 use Rattle.terms.specs.Numbers.{sum}
+use Rattle.signed.specs.Errors.{sizeOf, isUnder}
 use Rattle.workfile.specs.Numbers.{bytes}
 use Rattle.workfile.specs.declared.{Plan.Plan, FileRecord.FileRecord}
 
@@ -20,21 +23,26 @@ sumBound = 2 ^ 64
 abbrev pub longestFile : ℕ
 longestFile = 45663
 
--- errors has one entry for each line, 0 where there is no E
+-- errors has one entry for each line, 0 where there is no E and no U
 pub record Content : Type 0 where
   pub plan : Plan
   pub words : List ℕ
   pub values : List ℕ
-  pub errors : List ℕ
+  pub errors : List ℤ
 
 -- P, and each record after it: one byte of kind, then its numbers
 abbrev pub planBytes : Plan → List ℕ
 planBytes p = 0x50 ∷ p .level ∷ bytes 8 (p .te) ++ bytes 8 (p .ae)
 
+-- the kind of an error's record: E where it is overstated, U where it is understated
+abbrev pub errorKind : Bool → ℕ
+errorKind false = 0x45
+errorKind true = 0x55
+
 abbrev pub bytesOf : FileRecord → List ℕ
 bytesOf (FileRecord.Word w) = 0x57 ∷ bytes 8 w
 bytesOf (FileRecord.Value v) = 0x4C ∷ bytes 8 v
-bytesOf (FileRecord.ErrorOf l e) = 0x45 ∷ (bytes 4 l ++ bytes 8 e)
+bytesOf (FileRecord.ErrorOf u l n) = errorKind u ∷ (bytes 4 l ++ bytes 8 n)
 bytesOf (FileRecord.End n s) = 0x5A ∷ (bytes 4 n ++ bytes 8 s)
 bytesOf FileRecord.Nothing = []
 
@@ -42,11 +50,15 @@ abbrev pub bytesOfAll : List FileRecord → List ℕ
 bytesOfAll [] = []
 bytesOfAll (r ∷ rs) = bytesOf r ++ bytesOfAll rs
 
--- one E for each error above 0, from line i on
-abbrev pub errorRecords : ℕ → List ℕ → List FileRecord
+-- the record of a line's error, by its kind and size: none where the size is 0
+abbrev pub errorRecord : ℕ → Bool → ℕ → List FileRecord
+errorRecord i u zero = []
+errorRecord i u (suc n) = FileRecord.ErrorOf u i (suc n) ∷ []
+
+-- one E or U for each error other than 0, from line i on
+abbrev pub errorRecords : ℕ → List ℤ → List FileRecord
 errorRecords i [] = []
-errorRecords i (zero ∷ es) = errorRecords (suc i) es
-errorRecords i (suc e ∷ es) = FileRecord.ErrorOf i (suc e) ∷ errorRecords (suc i) es
+errorRecords i (e ∷ es) = errorRecord i (isUnder e) (sizeOf e) ++ errorRecords (suc i) es
 
 -- the records between P and Z, and Z
 abbrev pub between : Content → List FileRecord

@@ -3,9 +3,11 @@ use Prim.Native.Nat.{ℕ, zero, suc, _+_, _-_}
 use mathlib.Core.Bool.{Bool, true, false, _&&_, not}
 use mathlib.Core.List.{List, [], _∷_, _++_}
 use lib.Dec.{leb, ltb, eqb}
+use lib.IntN.{ℤ, pos}
 use lib.ListN.{length, getD, drop, replicate}
 use Rattle.terms.specs.Outcome.{Outcome, accepted, refused}
 use Rattle.terms.specs.Numbers.{pick, sum}
+use Rattle.signed.specs.Errors.{signedOf, mostSize}
 use Rattle.workfile.specs.Numbers.{littleEndian}
 use Rattle.workfile.specs.Content.{Content, mostWords, mostFileLines, sumBound}
 use Rattle.workfile.specs.declared.{Plan.Plan, Tally.Tally, FileRecord.FileRecord}
@@ -14,14 +16,14 @@ use Rattle.workfile.specs.declared.{Plan.Plan, Tally.Tally, FileRecord.F
 abbrev pub size : FileRecord → ℕ
 size (FileRecord.Word w) = 9
 size (FileRecord.Value v) = 9
-size (FileRecord.ErrorOf l e) = 13
+size (FileRecord.ErrorOf u l n) = 13
 size (FileRecord.End n s) = 13
 size FileRecord.Nothing = 0
 
 abbrev pub isEnd : FileRecord → Bool
 isEnd (FileRecord.Word w) = false
 isEnd (FileRecord.Value v) = false
-isEnd (FileRecord.ErrorOf l e) = false
+isEnd (FileRecord.ErrorOf u l n) = false
 isEnd (FileRecord.End n s) = true
 isEnd FileRecord.Nothing = false
 
@@ -33,8 +35,9 @@ unfoldable pub recordOf : List ℕ → FileRecord
 recordOf bs =
     pick (eqb (getD bs 0 0) 0x57) (whole 9 bs (FileRecord.Word (littleEndian 8 (drop 1 bs))))
     (pick (eqb (getD bs 0 0) 0x4C) (whole 9 bs (FileRecord.Value (littleEndian 8 (drop 1 bs))))
-    (pick (eqb (getD bs 0 0) 0x45) (whole 13 bs (FileRecord.ErrorOf (littleEndian 4 (drop 1 bs)) (littleEndian 8 (drop 5 bs))))
-    (pick (eqb (getD bs 0 0) 0x5A) (whole 13 bs (FileRecord.End (littleEndian 4 (drop 1 bs)) (littleEndian 8 (drop 5 bs)))) FileRecord.Nothing)))
+    (pick (eqb (getD bs 0 0) 0x45) (whole 13 bs (FileRecord.ErrorOf false (littleEndian 4 (drop 1 bs)) (littleEndian 8 (drop 5 bs))))
+    (pick (eqb (getD bs 0 0) 0x55) (whole 13 bs (FileRecord.ErrorOf true (littleEndian 4 (drop 1 bs)) (littleEndian 8 (drop 5 bs))))
+    (pick (eqb (getD bs 0 0) 0x5A) (whole 13 bs (FileRecord.End (littleEndian 4 (drop 1 bs)) (littleEndian 8 (drop 5 bs)))) FileRecord.Nothing))))
 
 -- the record at a place of a file
 unfoldable pub recordAt : List ℕ → ℕ → FileRecord
@@ -44,26 +47,26 @@ recordAt f at = recordOf (drop at f)
 abbrev pub tallyOf : Content → Tally
 tallyOf c = record { words = length (c .words); lines = length (c .values); sum = sum (c .values); «next_line» = length (c .errors) }
 
--- whether the rules allow a record after those counted: W before any L, L before any E
+-- whether the rules allow a record after those counted: W before any L, L before any E or U, whose lines rise together
 unfoldable pub fits : Tally → FileRecord → Bool
 fits t (FileRecord.Word w) = eqb (t .lines) 0 && ltb (t .words) mostWords
 fits t (FileRecord.Value v) = eqb (t .«next_line») 0 && (ltb (t .lines) mostFileLines && ltb (t .sum + v) sumBound)
-fits t (FileRecord.ErrorOf l e) = leb (t .«next_line») l && (ltb l (t .lines) && ltb 0 e)
+fits t (FileRecord.ErrorOf u l n) = leb (t .«next_line») l && (ltb l (t .lines) && (ltb 0 n && leb n (mostSize u)))
 fits t (FileRecord.End n s) = eqb n (t .lines) && eqb s (t .sum)
 fits t FileRecord.Nothing = false
 
--- lines without E have error 0
-abbrev pub padTo : ℕ → List ℕ → List ℕ
-padTo n es = es ++ replicate (n - length es) 0
+-- lines without E and U have error 0
+abbrev pub padTo : ℕ → List ℤ → List ℤ
+padTo n es = es ++ replicate (n - length es) (pos 0)
 
-abbrev pub withErrors : Content → List ℕ → Content
+abbrev pub withErrors : Content → List ℤ → Content
 withErrors c es = record { plan = c .plan; words = c .words; values = c .values; errors = es }
 
--- the content with one record more; Z gives the lines that are left their error
+-- the content with one record more: E and U their size with its sign; Z gives the lines that are left their error
 unfoldable pub grow : Content → FileRecord → Content
 grow c (FileRecord.Word w) = record { plan = c .plan; words = c .words ++ (w ∷ []); values = c .values; errors = c .errors }
 grow c (FileRecord.Value v) = record { plan = c .plan; words = c .words; values = c .values ++ (v ∷ []); errors = c .errors }
-grow c (FileRecord.ErrorOf l e) = withErrors c (padTo l (c .errors) ++ (e ∷ []))
+grow c (FileRecord.ErrorOf u l n) = withErrors c (padTo l (c .errors) ++ (signedOf n u ∷ []))
 grow c (FileRecord.End n s) = withErrors c (padTo n (c .errors))
 grow c FileRecord.Nothing = c
 

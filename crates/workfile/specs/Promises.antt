@@ -4,6 +4,7 @@ use mathlib.Core.Path.{_≡_}
 use mathlib.Core.Bool.{Bool, _&&_}
 use mathlib.Core.List.{List, _++_}
 use lib.Dec.{leb, ltb, eqb}
+use lib.IntN.{ℤ}
 use lib.ListN.{length, drop}
 use Rattle.terms.specs.Outcome.{Outcome, accepted, refused, refusedBy, after, left}
 use Rattle.terms.specs.Numbers.{pick, sum}
@@ -12,7 +13,7 @@ use Rattle.workfile.specs.Decode.{decode}
 use Rattle.workfile.specs.declared.{Plan.Plan, Contents.Contents, ReadAnswer.ReadAnswer, WriteAnswer.WriteAnswer}
 
 -- entries past the new ones stay untouched
-abbrev pub over : List ℕ → List ℕ → List ℕ
+abbrev pub over : {A : Type 0} → List A → List A → List A
 over new old = new ++ drop (length new) old
 
 -- what the reader's answer says: level, TE, AE and the counts
@@ -37,13 +38,13 @@ unfoldable pub readOf : List ℕ → ℕ → ℕ → ℕ → Outcome Content
 readOf file words values errors = withRoom words values errors (decode file)
 
 -- room for every legal file
-pub record Rooms (w v e : List ℕ) : Type 0 where
+pub record Rooms (w v : List ℕ) (e : List ℤ) : Type 0 where
   pub words : mostWords ≤ length w
   pub values : mostFileLines ≤ length v
   pub errors : mostFileLines ≤ length e
 
 -- the reader's promise: words, values and errors are the buffers before, words′, values′ and errors′ after
-pub record ReadPromise (file words values errors : List ℕ) (r : ReadAnswer) (words′ values′ errors′ : List ℕ) : Type 0 where
+pub record ReadPromise (file words values : List ℕ) (errors : List ℤ) (r : ReadAnswer) (words′ values′ : List ℕ) (errors′ : List ℤ) : Type 0 where
   pub answer : readSays r ≡ countsOf (readOf file (length words) (length values) (length errors))
   pub words-left : words′ ≡ left (λ c. over (c .words) words) words (readOf file (length words) (length values) (length errors))
   pub values-left : values′ ≡ left (λ c. over (c .values) values) values (readOf file (length words) (length values) (length errors))
@@ -68,10 +69,10 @@ writeOf c room =
 abbrev pub planWith : ℕ → ℕ → ℕ → Plan
 planWith level te ae = record { level = level; te = te; ae = ae }
 
-abbrev pub contentWith : Plan → List ℕ → List ℕ → List ℕ → Content
+abbrev pub contentWith : Plan → List ℕ → List ℕ → List ℤ → Content
 contentWith plan words values errors = record { plan = plan; words = words; values = values; errors = errors }
 
 -- the writer's promise: file is the buffer before, file′ after
-pub record WritePromise (plan : Plan) (words values errors file : List ℕ) (r : WriteAnswer) (file′ : List ℕ) : Type 0 where
+pub record WritePromise (plan : Plan) (words values : List ℕ) (errors : List ℤ) (file : List ℕ) (r : WriteAnswer) (file′ : List ℕ) : Type 0 where
   pub answer : writeSays r ≡ after (λ bs. accepted (length bs)) (writeOf (contentWith plan words values errors) (length file))
   pub file-left : file′ ≡ left (λ bs. over bs file) file (writeOf (contentWith plan words values errors) (length file))

@@ -15,16 +15,16 @@ pub struct Plan {
     pub ae: u64,
 }
 
-// A record after P: W, L, E with its line, Z with the count and the sum of L; or that no whole record stands there.
+// A record after P: W, L, E or U with its line and size, Z with the count and the sum of L; or that no whole record stands there.
 pub enum FileRecord {
     Word(u64),
     Value(u64),
-    ErrorOf(usize, u64),
+    ErrorOf(bool, usize, u64),
     End(usize, u64),
     Nothing,
 }
 
-// What the rules ask of the records so far; `next_line` is the lowest line that an E may name.
+// What the rules ask of the records so far; `next_line` is the lowest line that an E or U may name.
 pub struct Tally {
     pub words: usize,
     pub lines: usize,

@@ -4,6 +4,7 @@ use mathlib.Core.Path.{_≡_, ap, ap₂, subst, sym, _∙_}
 use mathlib.Core.List.{List, _∷_, _++_}
 use native.Mathlib.Omega.{arith}
 use lib.Dec.{ltb}
+use lib.IntN.{ℤ}
 use borrow.Author.Tests.{ltb-true, ltb-false}
 use lib.ListN.{length, length-append}
 use Rattle.terms.specs.Outcome.{accepted, refusedBy, after, left}
@@ -41,7 +42,7 @@ length-front : (p : Plan) (w v : List ℕ) → length (frontBytes p w v) ≡ 18 
 length-front p w v =
     length-append (planBytes p ++ rows 0x57 w) (rows 0x4C v) ∙ omega (arith, length-append (planBytes p) (rows 0x57 w), length-rows 0x57 w, length-rows 0x4C v)
 
-pub has-room : (p : Plan) (w v e : List ℕ) (room : ℕ) → 31 + 9 * length w + 9 * length v + 13 * length (errorRecords 0 e) ≤ room → HasRoom (contentWith p w v e) room
+pub has-room : (p : Plan) (w v : List ℕ) (e : List ℤ) (room : ℕ) → 31 + 9 * length w + 9 * length v + 13 * length (errorRecords 0 e) ≤ room → HasRoom (contentWith p w v e) room
 has-room p w v e room h = record { front = length-front p w v; fits = omega (arith, length-errorBytes e) }
 
 -- what the total says
@@ -59,7 +60,7 @@ module _ (vs : List ℕ) (t : Total) (is : t ≡ totalOf vs) where
   past-sum : t ≡ Past → sumBound ≤ sum vs
   past-sum = by-sum (λ x. x ≡ Past → sumBound ≤ sum vs) (λ h e. absurd (let z : _≡_ {A = ℕ} 0 1 = cc in omega arith)) (λ h e. h)
 
-module _ (p : Plan) (w v e f : List ℕ) where
+module _ (p : Plan) (w v : List ℕ) (e : List ℤ) (f : List ℕ) where
   abbrev c : Content
   c = contentWith p w v e
 

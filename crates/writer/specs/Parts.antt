@@ -4,6 +4,7 @@ use mathlib.Core.Path.{_≡_}
 use mathlib.Core.List.{List, [], _∷_, _++_}
 use lib.Dec.{ltb}
 use lib.ListN.{length}
+use lib.IntN.{ℤ}
 use lib.Seq.{sets}
 use Rattle.terms.specs.Numbers.{pick, sum}
 use Rattle.workfile.specs.Numbers.{bytes}
@@ -25,8 +26,8 @@ unfoldable pub rows : ℕ → List ℕ → List ℕ
 rows kind [] = []
 rows kind (x ∷ xs) = (kind ∷ bytes 8 x) ++ rows kind xs
 
--- an E for each error above 0, from a line on
-unfoldable pub errorBytes : ℕ → List ℕ → List ℕ
+-- an E or a U for each error other than 0, from a line on
+unfoldable pub errorBytes : ℕ → List ℤ → List ℕ
 errorBytes line errors = bytesOfAll (errorRecords line errors)
 
 -- the sum, where it is within 64 bits

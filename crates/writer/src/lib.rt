@@ -34,7 +34,7 @@ fn put_file(
     plan: Plan,
     words: &[u64],
     values: &[u64],
-    errors: &[u64],
+    errors: &[i64],
     total: u64,
     file: &mut [u8],
 ) -> usize
@@ -51,7 +51,7 @@ fn write_legal(
     plan: Plan,
     words: &[u64],
     values: &[u64],
-    errors: &[u64],
+    errors: &[i64],
     total: u64,
     file: &mut [u8],
 ) -> WriteAnswer
@@ -72,7 +72,7 @@ pub fn write(
     ae: u64,
     words: &[u64],
     values: &[u64],
-    errors: &[u64],
+    errors: &[i64],
     file: &mut [u8],
 ) -> WriteAnswer
     ensures { λ r. ⌜ WritePromise (planWith level te ae) (now (words .entry)) (now (values .entry)) (now (errors .entry)) (now (file .entry)) r (now (file .exit)) ⌝ }

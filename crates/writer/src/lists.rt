@@ -22,19 +22,23 @@ pub fn put_list(file: &mut [u8], at: usize, kind: u8, list: &[u64]) -> usize
     to
 }
 
-// An E, where the error is above 0.
-fn put_error(file: &mut [u8], at: usize, line: usize, error: u64) -> usize
+// An E or a U, where the error is not 0.
+fn put_error(file: &mut [u8], at: usize, line: usize, error: i64) -> usize
     requires { ⌜ at + length (errorBytes line (error ∷ [])) ≤ length (now file) ⌝ }
     ensures { λ r. ⌜ Laid (now (file .entry)) at (errorBytes line (error ∷ [])) (now (file .exit)) r ⌝ }
 {
-    if error == 0 {
+    if error < 0 {
+        return records::put_two(file, at, 0x55, line, signed::size_of(error));
+    }
+    let size = signed::size_of(error);
+    if size == 0 {
         return at;
     }
-    records::put_two(file, at, 0x45, line, error)
+    records::put_two(file, at, 0x45, line, size)
 }
 
-// An E for each error above 0.
-pub fn put_errors(file: &mut [u8], at: usize, errors: &[u64]) -> usize
+// An E or a U for each error other than 0.
+pub fn put_errors(file: &mut [u8], at: usize, errors: &[i64]) -> usize
     requires { ⌜ at + length (errorBytes 0 (now errors)) ≤ length (now file) ⌝ }
     ensures { λ r. ⌜ Laid (now (file .entry)) at (errorBytes 0 (now (errors .entry))) (now (file .exit)) r ⌝ }
 {
@@ -47,14 +51,14 @@ pub fn put_errors(file: &mut [u8], at: usize, errors: &[u64]) -> usize
     to
 }
 
-// How many errors are above 0.
-pub fn count_errors(errors: &[u64]) -> usize
+// How many errors are not 0.
+pub fn count_errors(errors: &[i64]) -> usize
     ensures { λ r. ⌜ (r ≡ length (errorRecords 0 (now (errors .entry)))) × (r ≤ length (now (errors .entry))) ⌝ }
 {
     let mut line = 0;
     let mut count: usize = 0;
     while line < errors.len() {
-        if errors[line] > 0 {
+        if signed::size_of(errors[line]) > 0 {
             count += 1;
         }
         line += 1;

@@ -1,7 +1,6 @@
 -- `project::amount_of` meets its contract: at an interval of 32 bits error × interval fits, and beyond it the product is wide. Assumes nothing.
 use borrow.Author.Needs.{needs}
 use native.Mathlib.Omega.{arith}
-use mathlib.Core.Path.{_∙_}
 use Rattle.project.proofs.Amounts.{amount-made, amount-none, amount-wide, product-most, product-fits}
 use Rattle.project.proofs.amount_of.Statement.{statement}
 use Rattle.project.proofs.amount_of.Tie as tie
@@ -17,4 +16,4 @@ amount-of-spec =
     (λ c. search needs)
     (λ c. amount-made _ _ _)
     (λ c κs. search needs)
-    (λ c. c .scaled-up .ensures ∙ amount-wide _ _ _))
+    (λ c. search amount-wide))

@@ -4,7 +4,7 @@ use native.Mathlib.Omega.{arith}
 use borrow.Author.Needs.{needs}
 use Prim.Native.Nat.{_-_}
 use lib.ListN.{length}
-use Rattle.project.proofs.Gathering.{Gathering, gathering-none, gathering-room, gathering-end, pass-refused, pass-further}
+use Rattle.project.proofs.Gathering.{Gathering, gathering-none, gathering-room, gathering-end, pass-refused, pass-further, small-over, small-under}
 use Rattle.project.proofs.gather.Statement.{statement}
 use Rattle.project.proofs.gather.Tie as tie
 
@@ -13,13 +13,6 @@ Inv-loop first ledger interval errors amounts₀ at₀ line₀ amounts at line =
 
 abbrev μ-loop : tie.MeasureT-loop
 μ-loop first ledger interval errors amounts₀ at₀ line₀ amounts at line = length ledger - line
-
--- the line was passed, and the loop goes on
-loop-again : tie.Need-loop-again Inv-loop μ-loop
-loop-again c =
-    let pass = c .before .before .before .before .before in
-    let turn = pass .before .before .before .before .before in
-    pass-further (turn .before .loop .inv) (turn .loop-test .taken) (pass .pass-line .ensures) _ (c .before .further .given .1)
 
 pub gather-spec : {M : Type 1} → statement M
 gather-spec =
@@ -34,6 +27,7 @@ gather-spec =
     (λ c. search needs)
     (λ c. search pass-refused)
     (λ c. search needs) (λ c. search needs) (λ c. search needs)
-    loop-again
+    (λ c. search pass-further)
+    (λ c κs. (search small-over, search small-under))
     (λ c. search needs)
     (λ c. search gathering-end))

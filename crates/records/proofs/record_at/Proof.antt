@@ -62,10 +62,25 @@ eight-bytes-requires-4 : tie.Need-eight-bytes-requires-4
 eight-bytes-requires-4 c κs = search needs
 
 returns-6 : tie.Need-returns-6
-returns-6 c = search (needs, end-at)
+returns-6 c = search (needs, error-at)
+
+add-four-bytes-3 : tie.Need-add-four-bytes-3
+add-four-bytes-3 c = search needs
+
+four-bytes-requires-3 : tie.Need-four-bytes-requires-3
+four-bytes-requires-3 c κs = search needs
+
+add-eight-bytes-5 : tie.Need-add-eight-bytes-5
+add-eight-bytes-5 c = search needs
+
+eight-bytes-requires-5 : tie.Need-eight-bytes-requires-5
+eight-bytes-requires-5 c κs = search needs
 
 returns-7 : tie.Need-returns-7
-returns-7 c = search (needs, no-kind)
+returns-7 c = search (needs, end-at)
+
+returns-8 : tie.Need-returns-8
+returns-8 c = search (needs, no-kind)
 
 pub record-at-spec : {M : Type 1} → statement M
 record-at-spec =
@@ -91,4 +106,9 @@ record-at-spec =
     add-eight-bytes-4
     eight-bytes-requires-4
     returns-6
-    returns-7)
+    add-four-bytes-3
+    four-bytes-requires-3
+    add-eight-bytes-5
+    eight-bytes-requires-5
+    returns-7
+    returns-8)

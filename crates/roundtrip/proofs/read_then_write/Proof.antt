@@ -2,14 +2,14 @@
 use native.Mathlib.Omega.{arith}
 use borrow.Author.Needs.{needs}
 use Rattle.workfile.proofs.Held.{empty-rooms, AtRead, words-long, values-long, errors-long, words-fit, values-fit, errors-fit}
-use Rattle.roundtrip.proofs.Trips.{file-refused, file-again}
+use Rattle.roundtrip.proofs.Trips.{was-read, file-refused, file-again}
 use Rattle.roundtrip.proofs.read_then_write.Statement.{statement}
 use Rattle.roundtrip.proofs.read_then_write.Tie as tie
 
 -- what the match has found is what was read
 at-read : (c : tie.After-contents) → let at = c .before .before .before .before .before in
     AtRead (at .before .before .before .before .before .args .file .now) (c .contents .given .0 .0) (at .read .last .1 .0) (at .read .last .1 .1 .0) (at .read .last .1 .1 .1 .0)
-at-read c = let at = c .before .before .before .before .before in record { words = _; values = _; errors = _; answer = _; rooms = empty-rooms; promise = at .read .ensures; told = c .contents .given .1 }
+at-read c = let at = c .before .before .before .before .before in was-read (at .read .ensures) empty-rooms (c .contents .given .1)
 
 slice-aggregate-read : tie.Need-slice-aggregate-read
 slice-aggregate-read c = search needs

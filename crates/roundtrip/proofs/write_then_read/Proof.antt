@@ -7,6 +7,9 @@ use Rattle.roundtrip.proofs.Trips.{write-refused, written-fits, written
 use Rattle.roundtrip.proofs.write_then_read.Statement.{statement}
 use Rattle.roundtrip.proofs.write_then_read.Tie as tie
 
+read-each-requires : tie.Need-read-each-requires
+read-each-requires c κs = search needs
+
 write-requires : tie.Need-write-requires
 write-requires c κs = search needs
 
@@ -39,17 +42,18 @@ returns-2 c =
     let lent = c .before .before .before in
     let written = lent .before .before .before in
     let wrote = written .before .before .before .before in
-    let known = wrote .before .before .before in
-    let start = known .before .before .before in
+    let each = wrote .before .before in
+    let known = each .before .before in
+    let start = known .before .before in
     let third = c .before .before .read-arg3 .given .0 .1 in
     let fourth = c .before .read-arg4 .given .0 .1 in
     written-read (wrote .write .ensures) (written .count .given .1)
     (record {
       te = omega (arith, start .fits .te);
       ae = omega (arith, start .fits .ae);
-      words = λ i. omega (arith, known .before .before .shared-slice-known .given i);
-      values = λ i. omega (arith, known .before .shared-slice-known2 .given i);
-      errors = λ i. omega (arith, known .shared-slice-known3 .given i);
+      words = λ i. omega (arith, known .before .shared-slice-known .given i);
+      values = λ i. omega (arith, known .shared-slice-known2 .given i);
+      errors = each .read-each .ensures;
     })
     (record { words = omega (arith, lent .read-arg2 .given .0 .1); values = omega (arith, third, fourth); errors = omega (arith, third, fourth) }) (search needs)
 
@@ -57,6 +61,7 @@ pub write-then-read-spec : {M : Type 1} → statement M
 write-then-read-spec =
     tie.close
     (tie.spec
+    read-each-requires
     write-requires
     enum-known-why
     enum-known-count

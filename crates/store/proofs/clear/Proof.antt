@@ -17,8 +17,8 @@ loop-holds c = search (needs, clear-none)
 mul-buffer : tie.Need-mul-buffer Inv-loop μ-loop
 mul-buffer c = search needs
 
-slice-write-buffer : tie.Need-slice-write-buffer Inv-loop μ-loop
-slice-write-buffer c = search needs
+slice-set-of-buffer : tie.Need-slice-set-of-buffer Inv-loop μ-loop
+slice-set-of-buffer c = search needs
 
 add-i : tie.Need-add-i Inv-loop μ-loop
 add-i c = search needs
@@ -43,7 +43,7 @@ clear-spec =
     μ-loop
     loop-holds
     mul-buffer
-    slice-write-buffer
+    slice-set-of-buffer
     add-i
     loop-less
     loop-again

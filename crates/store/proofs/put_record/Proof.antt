@@ -1,6 +1,6 @@
 -- `store::put_record` meets its contract: the rule that a record keeps says that its place is in the buffer. Assumes nothing.
 use borrow.Author.Needs.{needs}
-use Rattle.store.proofs.Placing.{word-place, value-place, error-after, error-place, end-after, end-place, put-word, put-value, put-error, put-end, put-nothing}
+use Rattle.store.proofs.Placing.{word-place, value-place, error-after, error-place, error-size, end-after, end-place, put-word, put-value, put-error, put-end, put-nothing}
 use Rattle.store.proofs.put_record.Statement.{statement}
 use Rattle.store.proofs.put_record.Tie as tie
 
@@ -26,7 +26,7 @@ enum-known-found-3 : tie.Need-enum-known-found-3
 enum-known-found-3 c = search needs
 
 put-error-requires : tie.Need-put-error-requires
-put-error-requires c κs = search (needs, error-after, error-place)
+put-error-requires c κs = search (needs, error-after, error-place, error-size)
 
 enum-known-found-4 : tie.Need-enum-known-found-4
 enum-known-found-4 c = search needs

@@ -6,4 +6,4 @@ use Rattle.vectors.proofs.numbers.Statement.{statement}
 use Rattle.vectors.proofs.numbers.Tie as tie
 
 pub numbers-spec : {M : Type 1} → statement M
-numbers-spec = tie.close (tie.spec (λ c. sym (length-replicate {A = ℕ} 205000 0)))
+numbers-spec = tie.close (tie.spec (λ c. sym (length-replicate {A = ℕ} 105000 0)))

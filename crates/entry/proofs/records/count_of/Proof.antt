@@ -23,7 +23,11 @@ unfolding countOf
 returns-4 c = sym (ap countOf (c .match .keys4))
 
 returns-5 : tie.Need-returns-5
-returns-5 c = search (needs, none-counted)
+unfolding countOf
+returns-5 c = sym (ap countOf (c .match .keys5))
+
+returns-6 : tie.Need-returns-6
+returns-6 c = search (needs, none-counted)
 
 pub count-of-spec : {M : Type 1} → statement M
-count-of-spec = tie.close (tie.spec returns returns-2 returns-3 returns-4 returns-5)
+count-of-spec = tie.close (tie.spec returns returns-2 returns-3 returns-4 returns-5 returns-6)

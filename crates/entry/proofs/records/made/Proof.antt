@@ -23,7 +23,11 @@ unfolding madeOf
 returns-4 c = sym (ap (λ kind. madeOf kind (c .before .args .numbers)) (c .match .keys4))
 
 returns-5 : tie.Need-returns-5
-returns-5 c = search (needs, none-made)
+unfolding madeOf
+returns-5 c = sym (ap (λ kind. madeOf kind (c .before .args .numbers)) (c .match .keys5))
+
+returns-6 : tie.Need-returns-6
+returns-6 c = search (needs, none-made)
 
 pub made-spec : {M : Type 1} → statement M
-made-spec = tie.close (tie.spec returns returns-2 returns-3 returns-4 returns-5)
+made-spec = tie.close (tie.spec returns returns-2 returns-3 returns-4 returns-5 returns-6)

@@ -17,5 +17,9 @@ returns-3 : tie.Need-returns-3
 unfolding brokenRule
 returns-3 c = search (needs, lt-ltb, le-ltb)
 
+returns-4 : tie.Need-returns-4
+unfolding brokenRule
+returns-4 c = search (needs, lt-ltb, le-ltb)
+
 pub broken-error-spec : {M : Type 1} → statement M
-broken-error-spec = tie.close (tie.spec returns returns-2 returns-3)
+broken-error-spec = tie.close (tie.spec returns returns-2 returns-3 returns-4)

@@ -1,14 +1,14 @@
 -- `reader::storing::step` meets its contract: the record found is the one that is judged and stored. Assumes nothing.
 use borrow.Author.Needs.{needs}
-use Rattle.reader.proofs.Second.{found-place, stepped}
+use Rattle.reader.proofs.Second.{found-place, found-allowed, stepped}
 use Rattle.reader.proofs.storing.step.Statement.{statement}
 use Rattle.reader.proofs.storing.step.Tie as tie
 
 record-at-requires : tie.Need-record-at-requires
 record-at-requires c κs = search needs
 
-judge-requires : tie.Need-judge-requires
-judge-requires c κs = search needs
+take-requires : tie.Need-take-requires
+take-requires c κs = search found-allowed
 
 put-record-requires : tie.Need-put-record-requires
 put-record-requires c κs = search (needs, found-place)
@@ -30,7 +30,7 @@ step-spec =
     tie.close
     (tie.spec
     record-at-requires
-    judge-requires
+    take-requires
     put-record-requires
     same-length
     same-length-2

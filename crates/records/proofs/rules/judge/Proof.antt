@@ -1,66 +1,20 @@
--- `records::rules::judge` meets its contract: each kind is judged by its own function. Assumes nothing.
+-- `records::rules::judge` meets its contract: the test is the rule. Assumes nothing.
 use borrow.Author.Needs.{needs}
-use Rattle.records.proofs.Judging.{judged-as, no-record}
+use Rattle.records.proofs.Judging.{tested, untested}
 use Rattle.records.proofs.rules.judge.Statement.{statement}
 use Rattle.records.proofs.rules.judge.Tie as tie
 
-enum-known-found : tie.Need-enum-known-found
-enum-known-found c = search needs
+allows-requires : tie.Need-allows-requires
+allows-requires c κs = search needs
 
-judge-word-requires : tie.Need-judge-word-requires
-judge-word-requires c κs = search needs
-
-enum-known-found-2 : tie.Need-enum-known-found-2
-enum-known-found-2 c = search needs
-
-judge-value-requires : tie.Need-judge-value-requires
-judge-value-requires c κs = search needs
-
-enum-known-found-3 : tie.Need-enum-known-found-3
-enum-known-found-3 c = search needs
-
-judge-error-requires : tie.Need-judge-error-requires
-judge-error-requires c κs = search needs
-
-enum-known-found-4 : tie.Need-enum-known-found-4
-enum-known-found-4 c = search needs
-
-judge-end-requires : tie.Need-judge-end-requires
-judge-end-requires c κs = search needs
-
-enum-told : tie.Need-enum-told
-enum-told c = search needs
+take-requires : tie.Need-take-requires
+take-requires c κs = search tested
 
 returns : tie.Need-returns
-returns c = search judged-as
+returns c = search needs
 
 returns-2 : tie.Need-returns-2
-returns-2 c = search judged-as
-
-returns-3 : tie.Need-returns-3
-returns-3 c = search judged-as
-
-returns-4 : tie.Need-returns-4
-returns-4 c = search judged-as
-
-returns-5 : tie.Need-returns-5
-returns-5 c = search no-record
+returns-2 c = search untested
 
 pub judge-spec : {M : Type 1} → statement M
-judge-spec =
-    tie.close
-    (tie.spec
-    enum-known-found
-    judge-word-requires
-    enum-known-found-2
-    judge-value-requires
-    enum-known-found-3
-    judge-error-requires
-    enum-known-found-4
-    judge-end-requires
-    enum-told
-    returns
-    returns-2
-    returns-3
-    returns-4
-    returns-5)
+judge-spec = tie.close (tie.spec allows-requires take-requires returns returns-2)

@@ -1,17 +1,17 @@
 -- `records::rules::judge_end` meets its contract: the tests are the rule. Assumes nothing.
 use native.Mathlib.Omega.{arith}
-use Rattle.records.proofs.Judging.{passes, fails}
+use Rattle.records.proofs.Judging.{fitting, unfitting}
 use Rattle.records.proofs.rules.judge_end.Statement.{statement}
 use Rattle.records.proofs.rules.judge_end.Tie as tie
 
 returns : tie.Need-returns
-returns c = passes _ _ (omega arith)
+returns c = fitting _ _ (omega arith)
 
 returns-2 : tie.Need-returns-2
-returns-2 c = fails _ _ (λ h. omega arith)
+returns-2 c = unfitting _ _ (λ h. omega arith)
 
 returns-3 : tie.Need-returns-3
-returns-3 c = fails _ _ (λ h. omega arith)
+returns-3 c = unfitting _ _ (λ h. omega arith)
 
 pub judge-end-spec : {M : Type 1} → statement M
 judge-end-spec = tie.close (tie.spec returns returns-2 returns-3)

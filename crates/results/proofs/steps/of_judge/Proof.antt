@@ -3,6 +3,7 @@ use borrow.Author.Needs.{needs}
 use Rattle.judge.specs.Judge.{judgeSays}
 use Rattle.results.specs.Results.{judgeSeen}
 use Rattle.results.proofs.Refused.{of-case}
+use Rattle.results.proofs.Shown.{judgement-shown}
 use Rattle.results.proofs.steps.of_judge.Statement.{statement}
 use Rattle.results.proofs.steps.of_judge.Tie as tie
 
@@ -12,4 +13,4 @@ of-judge-spec =
     (tie.spec
     (λ c. search needs) (λ c. search needs) (λ c. search needs) (λ c. search needs)
     (λ c. search (of-case judgeSeen judgeSays, c .tell .ensures))
-    (λ c. search (of-case judgeSeen judgeSays, c .verdict-number .ensures)))
+    (λ c. search (needs, judgement-shown)))

@@ -3,6 +3,7 @@ use borrow.Author.Needs.{needs}
 use Rattle.project.specs.Project.{projectSays}
 use Rattle.results.specs.Results.{projectSeen}
 use Rattle.results.proofs.Refused.{of-case}
+use Rattle.results.proofs.Shown.{projection-shown}
 use Rattle.results.proofs.steps.of_project.Statement.{statement}
 use Rattle.results.proofs.steps.of_project.Tie as tie
 
@@ -12,4 +13,4 @@ of-project-spec =
     (tie.spec
     (λ c. search needs) (λ c. search needs) (λ c. search needs)
     (λ c. search (of-case projectSeen projectSays, c .tell .ensures))
-    (λ c. search (of-case projectSeen projectSays)))
+    (λ c. search (needs, projection-shown)))

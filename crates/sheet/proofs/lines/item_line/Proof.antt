@@ -8,8 +8,8 @@ pub item-line-spec : {M : Type 1} → statement M
 item-line-spec =
     tie.close
     (tie.spec
-    (λ c. search needs) (λ c. search needs) (λ c. search needs) (λ c. search needs) (λ c κs. search needs)
     (λ c. search needs) (λ c. search needs) (λ c. search needs) (λ c κs. search needs)
+    (λ c. search needs) (λ c. search needs) (λ c κs. search needs)
     (λ c. search state-none)
     (λ c. search needs) (λ c. search state-written)
     (λ c. search needs) (λ c. search state-written))

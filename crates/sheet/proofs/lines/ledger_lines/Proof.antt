@@ -13,13 +13,6 @@ Inv-loop page₀ ledger errors interval at₀ next₀ item₀ page at next item 
 abbrev μ-loop : tie.MeasureT-loop
 μ-loop page₀ ledger errors interval at₀ next₀ item₀ page at next item = length ledger - item
 
-loop-again : tie.Need-loop-again Inv-loop μ-loop
-loop-again c =
-    let written = c .before .before .before in
-    let made = written .before .before in
-    let inside = made .before .before .before in
-    listing-more _ _ _ _ _ _ (inside .before .loop .inv) (inside .loop-test .taken) (made .line-of .ensures) (written .item-line .ensures) (c .step-over .ensures)
-
 pub ledger-lines-spec : {M : Type 1} → statement M
 ledger-lines-spec =
     tie.close
@@ -29,7 +22,7 @@ ledger-lines-spec =
     (λ c. search listing-none)
     (λ c. search needs) (λ c. search needs) (λ c. search needs) (λ c. search needs)
     (λ c κs. search (needs, line-within))
-    (λ c κs. search needs) (λ c κs. search needs) (λ c. search needs) (λ c. search needs)
-    loop-again
+    (λ c κs. search needs) (λ c. search needs) (λ c. search needs)
+    (λ c. search listing-more)
     (λ c. search needs)
     (λ c. search listing-all))

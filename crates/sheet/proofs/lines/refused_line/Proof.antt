@@ -14,7 +14,8 @@ small-place c = search needs
 returns : tie.Need-returns
 returns c =
     let told = c .before .before .before .before .before .before in
-    refused-written (told .before .before .args .why) (told .tell .ensures) (small-number told) (small-place told) (c .before .before .line .ensures)
+    let line = c .before .before .line in
+    refused-written (told .before .before .args .why) {at′ = line .result .at} {page′ = line .last .1 .0} (told .tell .ensures) (small-number told) (small-place told) (line .ensures)
 
 pub refused-line-spec : {M : Type 1} → statement M
 refused-line-spec =

@@ -16,11 +16,14 @@ abbrev μ-loop : tie.MeasureT-loop
 loop-holds : tie.Need-loop-holds Inv-loop μ-loop
 loop-holds c = search needs
 
-mul-if1 : tie.Need-mul-if1 Inv-loop μ-loop
-mul-if1 c = search needs
+mul-size-of : tie.Need-mul-size-of Inv-loop μ-loop
+mul-size-of c = search needs
 
-shared-slice-read-if1 : tie.Need-shared-slice-read-if1 Inv-loop μ-loop
-shared-slice-read-if1 c = search needs
+shared-slice-copy-out-size-of : tie.Need-shared-slice-copy-out-size-of Inv-loop μ-loop
+shared-slice-copy-out-size-of c = search needs
+
+size-of-requires : tie.Need-size-of-requires Inv-loop μ-loop
+size-of-requires c κs = search needs
 
 add-count : tie.Need-add-count Inv-loop μ-loop
 add-count c = search needs
@@ -44,8 +47,9 @@ count-errors-spec =
     Inv-loop
     μ-loop
     loop-holds
-    mul-if1
-    shared-slice-read-if1
+    mul-size-of
+    shared-slice-copy-out-size-of
+    size-of-requires
     add-count
     add-line
     loop-less

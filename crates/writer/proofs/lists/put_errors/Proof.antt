@@ -18,8 +18,8 @@ loop-holds c = search errors-start
 mul-put-error : tie.Need-mul-put-error Inv-loop μ-loop
 mul-put-error c = search needs
 
-shared-slice-read-put-error : tie.Need-shared-slice-read-put-error Inv-loop μ-loop
-shared-slice-read-put-error c = search needs
+shared-slice-copy-out-put-error : tie.Need-shared-slice-copy-out-put-error Inv-loop μ-loop
+shared-slice-copy-out-put-error c = search needs
 
 put-error-requires : tie.Need-put-error-requires Inv-loop μ-loop
 put-error-requires c κs = search (needs, errors-room)
@@ -31,7 +31,7 @@ loop-less : tie.Need-loop-less Inv-loop μ-loop
 loop-less c = search needs
 
 loop-again : tie.Need-loop-again Inv-loop μ-loop
-loop-again c = search errors-on
+loop-again c = search (needs, errors-on)
 
 same-length : tie.Need-same-length Inv-loop μ-loop
 same-length c = search needs
@@ -47,7 +47,7 @@ put-errors-spec =
     μ-loop
     loop-holds
     mul-put-error
-    shared-slice-read-put-error
+    shared-slice-copy-out-put-error
     put-error-requires
     add-line
     loop-less

@@ -1,0 +1,98 @@
+"""The notation's self-test: the practice text, every fault, the edges of every limit, and random contents."""
+
+import random
+import sys
+
+import reference
+from notation import MOST_NUMBER, WRONG, Contents, Fault, parse
+
+PRACTICE = b"# the practice ledger\nP 90 100 0\n\nW 63\nW 25\nL 30\nL 30\nL 40\nL 20\n  E 0\t7 \r\nE 2 10\nE 3 5"
+PLAN = b"P 90 100 0\n"
+
+
+def same(what, found, expected):
+    if found != expected:
+        sys.exit(f"{what}: found {found}, expected {expected}")
+
+
+def faults():
+    """Texts with their fault, one or more for each number."""
+    yield from ((b"Z 4 120", 1, 1), (b"PP 1 2 3", 1, 1), (b"p 90 100 0", 1, 1), (b"\xff", 1, 1), (PLAN + b"\0", 2, 1))
+    yield from ((b"P 90 100", 1, 2), (b"P", 1, 2), (PLAN + b"L 5\nE 0", 3, 2), (PLAN + b"W \t\r\n", 2, 2))
+    yield from ((b"P 90 100 -1", 1, 3), (b"P 9x 100", 1, 3), (PLAN + b"L 1,000", 2, 3), (PLAN + b"L 30#", 2, 3))
+    yield from ((b"P 90 100 18446744073709551616", 1, 4), (PLAN + b"W 99999999999999999999x", 2, 4))
+    yield from ((b"P 90 100 0 0", 1, 5), (PLAN + b"L 30 # rent", 2, 5), (PLAN + b"W 1 x", 2, 5))
+    yield from ((b"", 1, 6), (b"\n# no P\n", 3, 6), (b"W 63\n" + PLAN, 1, 6), (b"#", 2, 6), (b"E 0 0", 1, 6))
+    yield from ((PLAN + PLAN, 2, 7), (PLAN + b"L 1\nP 256 0 0", 3, 7), (b"P 256 100 0", 1, 8))
+    yield from ((PLAN + b"L 30\nW 63", 3, 9), (PLAN + b"L 30\nE 0 7\nL 30", 4, 9), (PLAN + b"L 1\nE 0 1\nW 1", 4, 9))
+    yield from ((PLAN + b"W 1\n" * 65, 66, 10), (PLAN + b"L 1\n" * 2049, 2050, 11))
+    yield from ((PLAN + b"L 18446744073709551615\nL 1", 3, 12), (PLAN + b"E 0 7", 2, 13), (PLAN + b"L 30\nE 1 7", 3, 13))
+    yield from ((PLAN + b"L 1\nL 1\nE 1 1\nE 1 1", 5, 14), (PLAN + b"L 1\nL 1\nE 1 1\nE 0 1", 5, 14), (PLAN + b"L 30\nE 0 0", 3, 15))
+    yield from ((PLAN + b"U", 2, 2), (PLAN + b"L 5\nU 0", 3, 2), (PLAN + b"L 5\nU 0 -5", 3, 3), (PLAN + b"L 5\nU 0 5 5", 3, 5), (b"U 0 0", 1, 6), (PLAN + b"u 0 5", 2, 1))
+    yield from ((PLAN + b"L 30\nU 0 7\nL 30", 4, 9), (PLAN + b"L 1\nU 0 1\nW 1", 4, 9), (PLAN + b"U 0 7", 2, 13), (PLAN + b"L 30\nU 1 7", 3, 13))
+    for former, latter in (b"E", b"U"), (b"U", b"E"), (b"U", b"U"):
+        for line in b"0", b"1":
+            yield PLAN + b"L 1\nL 1\n" + former + b" 1 1\n" + latter + b" " + line + b" 1", 5, 14
+    yield from ((PLAN + b"L 30\nU 0 0", 3, 15), (PLAN + b"L 30\nE 0 9223372036854775808", 3, 16), (PLAN + b"L 30\nU 0 9223372036854775809", 3, 16))
+    yield from ((PLAN + b"L 30\nE 1 9223372036854775808", 3, 13), (PLAN + b"L 30\nE 0 1\nU 0 9223372036854775809", 4, 14))
+
+
+def random_contents(r):
+    contents = Contents()
+    contents.plan = r.randrange(256), r.choice((0, 1, MOST_NUMBER)), r.randrange(10**6)
+    contents.words = [r.randrange(2**64) for _ in range(r.choice((0, 1, 5, 64)))]
+    contents.values = [r.randrange(10 ** r.randrange(1, 14)) for _ in range(r.choice((0, 1, 20, 2048)))]
+    drawn = sorted(r.sample(range(len(contents.values)), r.randrange(len(contents.values) + 1)))
+    contents.errors = {line: r.choice((r.randrange(1, 2**63), -r.randrange(1, 2**63 + 1), -(2**63), 2**63 - 1)) for line in drawn}
+    return contents
+
+
+def records_of(contents):
+    yield "P", *contents.plan
+    for word in contents.words:
+        yield "W", word
+    for value in contents.values:
+        yield "L", value
+    for line, error in contents.errors.items():
+        yield "E" if error > 0 else "U", line, abs(error)
+
+
+def random_line(r, kind, *numbers):
+    """A record with blanks of every kind and leading zeros."""
+    def blanks(least):
+        return "".join(r.choice(" \t\r") for _ in range(r.choice((least, least, 3))))
+
+    fields = "".join(blanks(1) + str(number).zfill(r.choice((0, 0, 25))) for number in numbers)
+    return blanks(0) + kind + fields + blanks(0)
+
+
+def random_text(r, contents):
+    """A text of a content, with blank lines and comments."""
+    lines = []
+    for record in records_of(contents):
+        lines += r.choice(([], [], [""], ["  # L 5"]))
+        lines.append(random_line(r, *record))
+    return "\n".join(lines).encode() + r.choice((b"", b"\n", b"\n\n"))
+
+
+def run():
+    practice = parse(PRACTICE)
+    same("practice", (practice.plan, practice.words, practice.values, practice.all_errors()), ((90, 100, 0), [63, 25], [30, 30, 40, 20], [7, 0, 10, 5]))
+    same("practice file", len(practice.file()), 124)
+    for text, line, number in faults():
+        same(text[:40], parse(text), Fault(line, number))
+    same("every fault", {number for _, _, number in faults()}, set(WRONG))
+    for text in (PLAN + b"W 1\n" * 64, PLAN + b"L 1\n" * 2048, PLAN + b"L 18446744073709551615\nL 0", b"P 255 0 0"):
+        same(text[:40], type(parse(text)), Contents)
+    widest = parse(PLAN + b"L 1\nL 1\nU 0 9223372036854775808\nE 1 9223372036854775807")
+    same("widest errors", widest.all_errors(), [-(2**63), 2**63 - 1])
+    r = random.Random(1)
+    for _ in range(200):
+        contents = random_contents(r)
+        text = random_text(r, contents)
+        found = parse(text)
+        same(text[:40], type(found), Contents)
+        expected = contents.plan, contents.words, contents.values, contents.all_errors()
+        same(text[:40], (found.plan, found.words, found.values, found.all_errors()), expected)
+        same(text[:40], reference.decode(found.file()), expected)
+    print("notation: the practice text, every fault, every limit and 200 random texts agree")

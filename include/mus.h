@@ -3,7 +3,7 @@
  * Every function is total: it takes any input and returns a struct by value. `refusal` is 0 where the call is accepted, and then
  * the figures are the answer. Otherwise `refusal` is a number of enum mus_refusal, `place` says where (a line, a byte, a count;
  * 0 where the refusal names none), every figure is 0, and every lent buffer keeps its former content. Where several refusals
- * apply, the first is given in this order: 1, 2, 13; then 3 and 4 line by line; then 5 to 11; then 14 and 15 line by line; then 16.
+ * apply, the first is given in this order: 1, 22, 30, 2, 13; then 3 and 4 line by line; then 5 to 8, 23, 11; then 14 and 15 line by line; then 16.
  *
  * Money and numbers of draws are 64-bit, money in whole cents. Lines are numbered from 0. An error has a sign: above 0 the line is
  * overstated, too much was claimed; below 0 it is understated, too little; 0 is no error. A list is a pointer and a number of entries;
@@ -12,20 +12,24 @@
  * No function keeps a pointer, allocates, or has a state of its own: calls from several threads do not disturb each other.
  *
  * Stack: the bytes that a call needs, with its return address and the room for its result. The split of a ledger goes by rounds,
- * and the draw, the projection, the judgement and the sheet split too: a call of r rounds needs the larger of the first two figures.
+ * and the draw, the projection, the judgement and the sheet split too, those by strata one stratum after the other: a call of r rounds, or of r
+ * in the deepest stratum, needs the larger of the first two figures.
  * No ledger and no number of draws make more than MUS_MOST_ROUNDS rounds, which is proved; so the last figure is enough for every input.
  *
- *     call              one round   r rounds           90 rounds
- *     mus_size                104
- *     mus_split               192   144 + 48 r            4,464
- *     mus_start                56
- *     mus_draw                176   128 + 48 r            4,448
- *     mus_project             616   224 + 48 r            4,544
- *     mus_project_lines       680   288 + 48 r            4,608
- *     mus_judge             1,560   1,168 + 48 r          5,488
- *     mus_read                288
- *     mus_write               136
- *     mus_sheet            34,920   34,656 + 48 r        38,976
+ *     call               one round   r rounds           90 rounds
+ *     mus_size                 104
+ *     mus_split                192   144 + 48 r            4,464
+ *     mus_start                 56
+ *     mus_draw                 176   128 + 48 r            4,448
+ *     mus_project              616   224 + 48 r            4,544
+ *     mus_project_lines        664   272 + 48 r            4,592
+ *     mus_judge              1,560   1,168 + 48 r          5,488
+ *     mus_strata_plan        7,696   7,648 + 48 r         11,968
+ *     mus_strata_draw        6,512   6,464 + 48 r         10,784
+ *     mus_strata_project    10,912   10,864 + 48 r        15,184
+ *     mus_read                 288
+ *     mus_write                136
+ *     mus_sheet             34,920   34,656 + 48 r        38,976
  *
  * It was measured on the library as `rt staticlib mus` makes it (docs/PERFORMANCE.md). */
 #ifndef MUS_H
@@ -44,6 +48,7 @@ extern "C" {
 #define MUS_MOST_TOTAL UINT64_C(1000000000000000)
 #define MUS_MOST_INTERVAL UINT64_C(1000000000000000)
 #define MUS_MOST_ERRORS UINT64_C(63)
+#define MUS_MOST_STRATA 32
 
 /* The rounds that a split makes at most, whatever the ledger and the number of draws. */
 #define MUS_MOST_ROUNDS UINT64_C(90)
@@ -69,15 +74,18 @@ enum mus_refusal {
     MUS_NO_DRAWS = 8,               /* the number of draws is 0 */
     /* 9 is retired: every split leaves at least one draw */
     MUS_INTERVAL_TOO_LARGE = 10,    /* an interval handed in is above MUS_MOST_INTERVAL: mus_start alone */
-    MUS_START_OUT_OF_RANGE = 11,    /* the start is not below the interval, or not 0 where there is none */
+    MUS_START_OUT_OF_RANGE = 11,    /* a start is not below its interval, or not 0 where there is none; the stratum, 0 without strata */
     MUS_NO_WORD_PASSES = 12,        /* no random word passes; the number of words lent */
-    MUS_LENGTHS_DIFFER = 13,        /* marks, errors or amounts differ from the ledger in length */
+    MUS_LENGTHS_DIFFER = 13,        /* marks, errors or amounts differ from the ledger in length, or starts from counts */
     MUS_ERROR_ABOVE_VALUE = 14,     /* the size of an error exceeds its line's value; the line */
     MUS_ERROR_NOT_DRAWN = 15,       /* an error other than 0 on a line not drawn and not full; the line */
     MUS_TOO_MANY_ERRORS = 16,       /* more than MUS_MOST_ERRORS drawn lines are overstated */
     MUS_FILE_BREAKS_RULE = 17,      /* the working file breaks a rule; the byte */
     MUS_ROOM_TOO_SHORT = 18,        /* a lent file buffer or page is too short; the bytes or entries needed */
-    MUS_NO_LEGAL_FILE = 19          /* the content has no legal file */
+    MUS_NO_LEGAL_FILE = 19,         /* the content has no legal file */
+    MUS_STRATA_OUT_OF_RANGE = 22,   /* there are no strata, or more than MUS_MOST_STRATA */
+    MUS_TOO_FEW_DRAWS = 23,         /* there are fewer draws than strata with book value */
+    MUS_COUNTS_DO_NOT_ADD = 30      /* the counts of the strata do not add to the ledger's lines */
 };
 
 /* What a mark says of its line. */
@@ -131,6 +139,39 @@ struct mus_judge_result {
     uint64_t verdict;     /* one of enum mus_verdict */
 };
 
+/* A stratum's share of the draws and its own split: mus_split_result of its lines and its draws. All 0 where it has no book value. */
+struct mus_stratum_plan {
+    uint64_t draws;
+    uint64_t interval, draws_left, sampled_total, full_lines, full_total;
+};
+
+struct mus_strata_plan_result {
+    uint64_t refusal, place;
+    uint64_t strata;                                  /* how many strata there are */
+    struct mus_stratum_plan stratum[MUS_MOST_STRATA]; /* a row for each; past the last all 0 */
+};
+
+struct mus_strata_draw_result {
+    uint64_t refusal, place;
+    uint64_t drawn; /* how many lines of the whole ledger are marked MUS_DRAWN */
+};
+
+/* A stratum's draws, its interval, and both sums of each kind of error: those of mus_project_result of its lines, its draws and its start. */
+struct mus_stratum_projection {
+    uint64_t draws, interval;
+    uint64_t full, sampled, under_full, under_sampled;
+};
+
+/* No limit and no verdict: the conservative precision does not go with strata. */
+struct mus_strata_project_result {
+    uint64_t refusal, place;
+    uint64_t over;                                          /* the projected overstatements of all strata: full and sampled, added */
+    uint64_t under;                                         /* the same of the understatements, as a size */
+    int64_t net;                                            /* over - under, with its sign */
+    uint64_t strata;                                        /* how many strata there are */
+    struct mus_stratum_projection stratum[MUS_MOST_STRATA]; /* a row for each; past the last all 0 */
+};
+
 struct mus_read_result {
     uint64_t refusal, place;
     uint64_t level, te, ae;
@@ -176,6 +217,23 @@ struct mus_project_result mus_project_lines(const uint64_t *ledger, size_t ledge
 /* The judgement: the projection with its precision at a level, its upper limit, and the verdict against the tolerable error TE. All three
  * see overstatements alone: an understatement never helps a verdict. Refusals 1, 2, 13, 3, 4, 5, 6, 8, 11, 14, 15, 16. */
 struct mus_judge_result mus_judge(uint8_t level, const uint64_t *ledger, size_t ledger_length, uint64_t n, uint64_t start, const int64_t *errors, size_t errors_length, uint64_t te);
+
+/* A ledger by strata, as programmes: counts has the number of lines of each, in ledger order, from 1 to MUS_MOST_STRATA entries that add to the
+ * ledger's lines; 0 lines are allowed. Each stratum is its own ledger with its own split and start; lines and errors keep their numbers in
+ * the whole ledger, in what is lent and in the place of a refusal. The n draws are shared out: one for each stratum with book value, of the others
+ * to each the whole part of what its book value asks for, and those left over one each to the largest remainders, the lower stratum first on a
+ * tie. So an auditor plans, draws a start below each interval (mus_start), draws, and projects what was found.
+ *
+ * The plan: each stratum's draws and split. Refusals 22, 30, 2, 3, 4, 5, 8, 23. */
+struct mus_strata_plan_result mus_strata_plan(const uint64_t *ledger, size_t ledger_length, const uint64_t *counts, size_t counts_length, uint64_t n);
+
+/* The draw of each stratum from its own start; starts has one for each, 0 where the stratum has no book value. Writes a mark for each line of the
+ * ledger. Refusals 22, 30, 2, 13 (for marks or starts), 3, 4, 5, 8, 23, 11 with the first wrong stratum. */
+struct mus_strata_draw_result mus_strata_draw(const uint64_t *ledger, size_t ledger_length, const uint64_t *counts, size_t counts_length, uint64_t n, const uint64_t *starts, size_t starts_length, uint8_t *marks, size_t marks_length);
+
+/* The projection of each stratum, and over all of them. Refusals 22, 30, 2, 13 (for errors or starts), 3, 4, 5, 8, 23, 11 with the first wrong
+ * stratum, 14, 15. */
+struct mus_strata_project_result mus_strata_project(const uint64_t *ledger, size_t ledger_length, const uint64_t *counts, size_t counts_length, uint64_t n, const uint64_t *starts, size_t starts_length, const int64_t *errors, size_t errors_length);
 
 /* Reads a working file. words has room for at least MUS_MOST_WORDS entries, values and errors for at least MUS_MOST_FILE_LINES; entries
  * past those read stay as they were. A line with a record E gets its error, one with U its size below 0, and one with neither gets 0. Refusals

@@ -2,7 +2,7 @@
 """Kanthiwop's reference: every step of monetary unit sampling, by definition.
 
 It is written from the rules alone, in exact whole numbers, to be read beside them. It shares nothing with the
-proved program, so that the two can be held against each other.
+proved program, so that the two can be held against each other. The operations by strata stand in tools/reference_strata.py.
 
 An operation takes its inputs and its lent buffers (lists of numbers, or bytearrays), and returns its answer or a
 Refusal (number, place). It stores into a lent buffer only after its last check: a refused call leaves every buffer.
@@ -174,11 +174,11 @@ def check_level(level):
         raise Refused(1, 0)
 
 
-def ledger_total(ledger, *beside):
-    """The total of a legal ledger; beside are the marks, errors or amounts lent with it."""
+def ledger_total(ledger, *beside, agree=True):
+    """The total of a legal ledger; beside are the marks, errors or amounts lent with it, and whatever else is lent agrees in length."""
     if len(ledger) > MOST_LINES:
         raise Refused(2, 0)
-    if any(len(entries) != len(ledger) for entries in beside):
+    if not agree or any(len(entries) != len(ledger) for entries in beside):
         raise Refused(13, 0)
     total = 0
     for line, value in enumerate(ledger):
@@ -197,9 +197,9 @@ def check_te(te, total):
         raise Refused(6, 0)
 
 
-def check_start(start, interval):
+def check_start(start, interval, stratum=0):
     if start >= interval and not (interval == 0 and start == 0):
-        raise Refused(11, 0)
+        raise Refused(11, stratum)
 
 
 # ---- Step 1: size ----
@@ -315,23 +315,32 @@ def drawn_lines(ledger, sampled, interval, first_point):
     return drawn
 
 
+def states_after(ledger, rounds, first_point):
+    """What each line ends as, after a split and from a start that fits."""
+    states = [NOT_DRAWN] * len(ledger)
+    for line in rounds.full:
+        states[line] = FULL
+    for line in drawn_lines(ledger, rounds.sampled, rounds.intervals[-1], first_point):
+        states[line] = DRAWN
+    return states
+
+
 def states_of_lines(ledger, n, first_point):
     """The interval, and what each line of a legal ledger ends as."""
     figures, rounds = finished_split(ledger, n)
     check_start(first_point, figures.interval)
-    states = [NOT_DRAWN] * len(ledger)
-    for line in rounds.full:
-        states[line] = FULL
-    for line in drawn_lines(ledger, rounds.sampled, figures.interval, first_point):
-        states[line] = DRAWN
-    return figures.interval, states
+    return figures.interval, states_after(ledger, rounds, first_point)
+
+
+def write_marks(marks, states):
+    marks[:] = states if isinstance(marks, list) else bytes(states)
 
 
 @operation
 def draw(ledger, n, first_point, marks):
     ledger_total(ledger, marks)
     _, states = states_of_lines(ledger, n, first_point)
-    marks[:] = states if isinstance(marks, list) else bytes(states)
+    write_marks(marks, states)
     return Draw(states.count(DRAWN))
 
 
@@ -604,9 +613,11 @@ def desk(file):
 
 def main(arguments):
     if arguments == ["check"]:
-        import self_test  # it stands on this file
+        import self_test  # they stand on this file
+        import self_test_strata
 
         self_test.run()
+        self_test_strata.run()
     elif arguments == ["desk"]:
         sys.stdout.buffer.write(desk(sys.stdin.buffer.read()))
     elif arguments == ["factors"]:

@@ -10,11 +10,15 @@ from vector_ledgers import BASE_INTERVAL, broken_ledgers, interval_of, legal_led
 from vector_lines import lines_cases
 from vector_lists import MOST_ERROR, MOST_WORD, Generated, equal, listed
 from vector_signed import signed_cases
+from vector_strata import strata_cases
 from vector_verdicts import verdict_cases, verdict_edges
 from vector_wide import wide_cases
 
 # Ledgers of more lines than this are left out, for a program with less room.
 LARGEST_LEDGER = 100_000
+
+# The cases by strata are among the stored ones.
+WITH_STRATA = True
 
 
 # ---- Size ----
@@ -190,6 +194,7 @@ def every_case():
     ways = [size_cases(r), split_cases(r), start_cases(r), draw_cases(r), project_cases(r), judge_cases(r)]
     ways += [read_cases(r), write_cases(r), stored_reads(), largest_cases(), wide_cases(Seeded(21)), lines_cases(Seeded(22))]
     ways += [verdict_cases(), signed_cases(Seeded(23)), kind_cases(Seeded(24))]
+    ways += [strata_cases(Seeded(25))] if WITH_STRATA else []
     for way in ways:
         for case in way:
             if not hasattr(case, "ledger") or case.ledger.count <= LARGEST_LEDGER:

@@ -4,7 +4,8 @@ import struct
 from dataclasses import dataclass
 
 import reference
-from vector_lists import NOTHING, room_of_bytes, room_of_numbers, signed
+import reference_strata
+from vector_lists import NOTHING, listed, room_of_bytes, room_of_numbers, signed
 
 
 def fields(operation, level=0, numbers=(), room=0, ledger=NOTHING, errors=NOTHING, words=NOTHING):
@@ -159,3 +160,67 @@ class Write:
     def run(self, latest):
         lists, latest[:] = (self.words.expand(), self.values.expand(), signed(self.errors.expand())), room_of_bytes(self.out)
         return reference.write(self.level, self.te, self.ae, *lists, latest), [*lists, latest]
+
+
+# ---- Operations by strata: the words are the counts, then the starts; beside its answer each has 32 rows of six figures ----
+
+FIGURES_OF_ROWS = 6 * reference_strata.MOST_STRATA
+
+
+def with_rows(answer, lent):
+    """The answer without its rows, what was lent, and the rows' figures: 0 past the last stratum, and where the call is refused."""
+    if isinstance(answer, reference.Refusal):
+        return answer, lent, [0] * FIGURES_OF_ROWS
+    *figures, rows = answer
+    in_rows = [figure for row in rows for figure in row]
+    return figures, lent, in_rows + [0] * (FIGURES_OF_ROWS - len(in_rows))
+
+
+@dataclass
+class StrataPlan:
+    ledger: object
+    counts: list
+    n: int
+
+    def pack(self):
+        return fields(10, numbers=(self.n, len(self.counts)), ledger=self.ledger, words=listed(self.counts))
+
+    def run(self, latest):
+        ledger = self.ledger.expand()
+        return with_rows(reference_strata.strata_plan(ledger, self.counts, self.n), [ledger, self.counts])
+
+
+@dataclass
+class StrataDraw:
+    ledger: object
+    counts: list
+    n: int
+    starts: list
+    marks: int
+
+    def pack(self):
+        lists = {"ledger": self.ledger, "words": listed(self.counts + self.starts)}
+        return fields(11, numbers=(self.n, len(self.counts)), room=self.marks, **lists)
+
+    def run(self, latest):
+        ledger, latest[:] = self.ledger.expand(), room_of_bytes(self.marks)
+        answer = reference_strata.strata_draw(ledger, self.counts, self.n, self.starts, latest)
+        return answer, [ledger, self.counts + self.starts, latest]
+
+
+@dataclass
+class StrataProject:
+    ledger: object
+    errors: object
+    counts: list
+    n: int
+    starts: list
+
+    def pack(self):
+        lists = {"ledger": self.ledger, "errors": self.errors, "words": listed(self.counts + self.starts)}
+        return fields(12, numbers=(self.n, len(self.counts)), **lists)
+
+    def run(self, latest):
+        ledger, errors = self.ledger.expand(), signed(self.errors.expand())
+        answer = reference_strata.strata_project(ledger, self.counts, self.n, self.starts, errors)
+        return with_rows(answer, [ledger, errors, self.counts + self.starts])

@@ -34,8 +34,10 @@ def digest(entries):
 
 
 def answer_text(number, case, latest):
-    answer, lent = case.run(latest)
+    answer, lent, *rows = case.run(latest)
     words = ["refused", *answer] if isinstance(answer, Refusal) else list(answer)
+    if rows:
+        words += ["rows", *map(digest, rows)]
     if lent:
         words += ["lent", *map(digest, lent)]
     return " ".join(map(str, [number, type(case).__name__.lower(), *words]))

@@ -20,12 +20,6 @@ void expect(int good, const char *what)
     printf("FAILED: %s\n", what);
 }
 
-/* A result as its numbers, in the order of its fields. */
-#define SAME(result, what, ...) do { \
-    const uint64_t wanted[] = {__VA_ARGS__}; \
-    expect(sizeof (result) == sizeof wanted && memcmp(&(result), wanted, sizeof wanted) == 0, what); \
-} while (0)
-
 /* Buffers with a margin that no call may touch, and their content before a call. */
 static uint8_t bytes[46000], bytes_before[46000];
 static uint64_t words[100], values[2100], words_before[100], values_before[2100];
@@ -474,6 +468,7 @@ int main(int argc, char **argv)
     read_cases();
     kinds_broken();
     write_cases();
+    strata_cases();
 #ifndef WITHOUT_SHEET
     sheet_cases();
 #endif

@@ -5,6 +5,20 @@
 /* Counts a test; prints what failed. */
 void expect(int passed, const char *what);
 
+/* A result as its numbers, in the order of its fields. */
+#define SAME(result, what, ...) do { \
+    const uint64_t wanted[] = {__VA_ARGS__}; \
+    expect(sizeof (result) == sizeof wanted && memcmp(&(result), wanted, sizeof wanted) == 0, what); \
+} while (0)
+
+/* The operations by strata: worked cases, each refusal, and what a refused call leaves. */
+void strata_cases(void);
+
+/* Stored cases of these operations, for run_vectors. */
+void strata_plan_case(void);
+void strata_draw_case(void);
+void strata_project_case(void);
+
 /* Runs each case of one file through the C interface and compares its line with the other file's: docs/VECTORS.md. */
 void run_vectors(const char *cases, const char *answers);
 

@@ -7,121 +7,9 @@
 #include <string.h>
 #include <time.h>
 
-#include "mus.h"
+#include "inputs.h"
 
-#define MOST 1000000
-
-static uint64_t ledger[MOST], words[64], values_room[2048], words_room[64];
-static int64_t errors[MOST], amounts[MOST], errors_room[2048];
-static uint8_t marks[MOST], file[MUS_LONGEST_FILE];
-static size_t lines, file_length = sizeof file;
-static uint64_t draws, start, te, file_te = 20000, file_ae = 4000, file_words = 64, rounds, seed = 1;
 static volatile uint64_t kept; /* so that no call is left out */
-
-static uint64_t next_random(uint64_t below)
-{
-    seed = seed * UINT64_C(6364136223846793005) + UINT64_C(1442695040888963407);
-    return (seed >> 33) % below;
-}
-
-/* Lines of 10 to 100 in currency, a draw for every hundred of them: none is full, so that the split makes one round. */
-static void plain_ledger(void)
-{
-    for (size_t i = 0; i < lines; i++) ledger[i] = 1000 + next_random(9001);
-    draws = lines / 100;
-    start = 1234;
-}
-
-/* The same in larger money, so that the interval has 36 bits and error x interval may pass 64. */
-static void wide_ledger(void)
-{
-    plain_ledger();
-    for (size_t i = 0; i < lines; i++) ledger[i] *= 100000;
-}
-
-/* Lines of the largest value and one draw, so that the interval is the largest too; all of the drawn line is an error. */
-static void widest_ledger(void)
-{
-    lines = 100;
-    for (size_t i = 0; i < lines; i++) ledger[i] = MUS_MOST_VALUE;
-    errors[0] = ledger[0];
-    draws = te = 1;
-    start = 0;
-}
-
-/* The plain ledger with a few long lines, each of which is above the interval of one round and not of the round before: so many rounds. */
-static void ledger_of_rounds(unsigned rounds)
-{
-    uint64_t added = 0, former = 0;
-    plain_ledger();
-    draws = 3 + (rounds - 1);
-    for (unsigned k = 1; k < rounds; k++) ledger[lines / rounds * k] = 0;
-    for (size_t i = 0; i < lines; i++) added += ledger[i];
-    for (unsigned k = 1; k < rounds; k++) {
-        uint64_t left = 2 + k, longer = added / left + 1, enough = (left + 1) * former;
-        if (enough > added && enough - added > longer) longer = enough - added;
-        ledger[lines / rounds * k] = longer;
-        added += longer;
-        former = longer;
-    }
-}
-
-/* A ledger of at most so many lines that makes many rounds: made from its last line backwards, where each round's lines are the least
- * that the round before leaves alone. */
-static uint64_t deep_ledger(void)
-{
-    size_t most = lines;
-    uint64_t added = 1, former = 1;
-    ledger[0] = lines = draws = rounds = 1;
-    for (;;) {
-        uint64_t more = (draws + 1) / 2, value = added / draws + 1, least = ((draws + more) * former - added + more - 1) / more;
-        if (value < former) value = former;
-        if (value < least) value = least;
-        while (value <= (added + more * value) / (draws + more)) value++;
-        if (lines + more > most || added + more * value > MUS_MOST_TOTAL) return added;
-        for (uint64_t i = 0; i < more; i++) ledger[lines++] = value;
-        added += more * value;
-        draws += more;
-        former = value;
-        rounds++;
-    }
-}
-
-/* So many of the drawn lines have an error, too much claimed. */
-static void find_errors(unsigned count)
-{
-    mus_draw(ledger, lines, draws, start, marks, lines);
-    for (size_t i = 0; i < lines && count > 0; i++) {
-        if (marks[i] != MUS_DRAWN) continue;
-        errors[i] = (int64_t) (1 + next_random(ledger[i]));
-        count--;
-    }
-    te = 1;
-    memset(marks, 0, lines);
-}
-
-/* Every second error is an understatement. */
-static void turn_errors(void)
-{
-    int turned = 0;
-    for (size_t i = 0; i < lines; i++) {
-        if (errors[i] == 0) continue;
-        if (turned) errors[i] = -errors[i];
-        turned = !turned;
-    }
-}
-
-/* The longest content: every line has an error, every second one an understatement. */
-static void longest_content(void)
-{
-    lines = MUS_MOST_FILE_LINES;
-    for (size_t i = 0; i < 64; i++) words[i] = next_random(UINT64_C(0x7FFFFFFF));
-    for (size_t i = 0; i < lines; i++) {
-        ledger[i] = 1000 + next_random(9001);
-        errors[i] = (int64_t) (1 + next_random(1000));
-    }
-    turn_errors();
-}
 
 static void call_judging(void) { kept = mus_split(ledger, lines, 0, marks, lines).refusal; }
 static void call_split(void) { kept = mus_split(ledger, lines, draws, marks, lines).interval; }
@@ -133,6 +21,9 @@ static void call_size(void) { kept = mus_size(95, 1000000, 20000, 4000).draws; }
 static void call_start(void) { kept = mus_start(40, words, 64).start; }
 static void call_read(void) { kept = mus_read(file, file_length, words_room, 64, values_room, 2048, errors_room, 2048).lines; }
 static void call_write(void) { kept = mus_write(95, file_te, file_ae, words, file_words, ledger, lines, errors, lines, file, sizeof file).length; }
+static void call_strata_plan(void) { kept = mus_strata_plan(ledger, lines, counts, strata, draws).strata; }
+static void call_strata_draw(void) { kept = mus_strata_draw(ledger, lines, counts, strata, draws, starts, strata, marks, lines).drawn; }
+static void call_strata_project(void) { kept = mus_strata_project(ledger, lines, counts, strata, draws, starts, strata, errors, lines).over; }
 
 #ifndef WITHOUT_SHEET
 static uint8_t page[MUS_LONGEST_TEXT];
@@ -165,10 +56,13 @@ static void set_project_both(void) { plain_ledger(); find_errors(MOST); turn_err
 static void set_project_wide(void) { wide_ledger(); find_errors(20); }
 static void set_most_errors(void) { plain_ledger(); find_errors(MUS_MOST_ERRORS); }
 static void set_read(void) { longest_content(); call_write(); }
+static void set_strata(void) { plain_ledger(); in_strata(MUS_MOST_STRATA); strata_errors(); }
+static void set_strata_widest(void) { widest_ledger(); in_strata(1); }
 
 /* Many rounds, and a call that is refused directly after the last, so that nothing is deeper: no start is so late, and a file without
  * words has none. */
 static void set_deep(void) { deep_ledger(); start = UINT64_MAX; te = 1; }
+static void set_strata_deep(void) { set_deep(); in_strata(1); }
 #ifndef WITHOUT_SHEET
 static void set_deep_file(void)
 {
@@ -203,6 +97,13 @@ static const struct row {
     {"judge-deep", set_deep, call_judge},
     {"judge-63", set_most_errors, call_judge},
     {"judge-widest", widest_ledger, call_judge},
+    {"strata-plan", set_strata, call_strata_plan},
+    {"strata-plan-deep", set_strata_deep, call_strata_plan},
+    {"strata-draw", set_strata, call_strata_draw},
+    {"strata-draw-deep", set_strata_deep, call_strata_draw},
+    {"strata-project", set_strata, call_strata_project},
+    {"strata-project-deep", set_strata_deep, call_strata_project},
+    {"strata-project-widest", set_strata_widest, call_strata_project},
     {"read", set_read, call_read},
     {"write", longest_content, call_write},
 #ifndef WITHOUT_SHEET

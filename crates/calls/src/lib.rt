@@ -3,6 +3,8 @@ use answers::Answer;
 use answers::Rest;
 use results::ProjectResult;
 use results::SplitResult;
+use results::StrataPlanResult;
+use results::StrataProjectResult;
 
 // An answer of figures alone.
 fn answer(refusal: u64, place: u64, figures: [u64; 5], count: usize) -> Answer {
@@ -83,6 +85,49 @@ pub fn judge(level: u8, ledger: &[u64], n: u64, start: u64, errors: &[i64], te: 
         figures: [r.full, r.sampled, r.m, r.under_full, r.under_sampled],
         count: 5,
         rest: Rest::Judged(r.net, r.precision, r.upper_limit, r.verdict),
+    }
+}
+
+// The plan by strata, with its rows; its answer without them.
+pub fn strata_plan(ledger: &[u64], counts: &[u64], n: u64) -> StrataPlanResult {
+    results::by_strata::of_strata_plan(strata::plan(ledger, counts, n))
+}
+
+pub fn of_strata_plan(r: StrataPlanResult) -> Answer {
+    answer(r.refusal, r.place, [r.strata, 0, 0, 0, 0], 1)
+}
+
+pub fn strata_draw(
+    ledger: &[u64],
+    counts: &[u64],
+    n: u64,
+    starts: &[u64],
+    marks: &mut [u8],
+) -> Answer {
+    let drawn = stratified::marks::draw_strata(ledger, counts, n, starts, marks);
+    let r = results::by_strata::of_strata_draw(drawn);
+    answer(r.refusal, r.place, [r.drawn, 0, 0, 0, 0], 1)
+}
+
+// The projection by strata, with its rows; its answer without them.
+pub fn strata_project(
+    ledger: &[u64],
+    counts: &[u64],
+    n: u64,
+    starts: &[u64],
+    errors: &[i64],
+) -> StrataProjectResult {
+    let projected = stratified::projection::project_strata(ledger, counts, n, starts, errors);
+    results::by_strata::of_strata_project(projected)
+}
+
+pub fn of_strata_project(r: StrataProjectResult) -> Answer {
+    Answer {
+        refusal: r.refusal,
+        place: r.place,
+        figures: [r.strata, r.over, r.under, 0, 0],
+        count: 3,
+        rest: Rest::Net(r.net),
     }
 }
 

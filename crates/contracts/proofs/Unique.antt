@@ -22,6 +22,10 @@ use Rattle.project.specs.declared.ProjectAnswer.{ProjectAnswer}
 use Rattle.project.specs.declared.ProjectAnswer.the-variants as project
 use Rattle.judge.specs.declared.JudgeAnswer.{JudgeAnswer}
 use Rattle.judge.specs.declared.JudgeAnswer.the-variants as judge
+use Rattle.strata.specs.declared.Row.{Row}
+use Rattle.strata.specs.declared.StrataAnswer.{StrataAnswer}
+use Rattle.strata.specs.declared.StrataAnswer.the-variants as strata
+use Rattle.stratified.specs.declared.projection.ProjectionRow.{ProjectionRow}
 use Rattle.factors.specs.Levels.{levelSays}
 use Rattle.ledger.specs.Ledger.{ledgerSays}
 use Rattle.size.specs.Size.{sizeSays, SizePromise}
@@ -32,6 +36,9 @@ use Rattle.draw.specs.Draw.{drawSays, DrawPromise}
 use Rattle.project.specs.Project.{projectSays, ProjectPromise}
 use Rattle.lines.specs.Each.{LinesPromise}
 use Rattle.judge.specs.Judge.{judgeSays, JudgePromise}
+use Rattle.strata.specs.Strata.{strataSays, PlanPromise}
+use Rattle.stratified.specs.Marks.{DrawStrataPromise}
+use Rattle.stratified.specs.Projection.{ProjectStrataPromise}
 use Rattle.workfile.specs.declared.Plan.{Plan}
 use Rattle.workfile.specs.Promises.{ReadPromise, WritePromise}
 use Rattle.workfile.proofs.Promises.{read-once, write-once}
@@ -78,6 +85,10 @@ judge-made : (r : JudgeAnswer) → Made judge.Judged judge.Refused r
 judge-made (judge.Judged a) = good a
 judge-made (judge.Refused why) = bad why
 
+strata-made : (r : StrataAnswer) → Made strata.Strata strata.Refused r
+strata-made (strata.Strata a) = good a
+strata-made (strata.Refused why) = bad why
+
 -- an answer of the split is what it says
 split-answer : {o : Outcome Figures} (r s : SplitAnswer) → splitSays r ≡ o → splitSays s ≡ o → r ≡ s
 split-answer = one-answer splitSays split.Split split.Refused (λ a. refl) (λ why. refl) split-made
@@ -85,6 +96,14 @@ split-answer = one-answer splitSays split.Split split.Refused (λ a. refl) (λ w
 -- and of the projection
 project-answer : {o : Outcome Projection} (r s : ProjectAnswer) → projectSays r ≡ o → projectSays s ≡ o → r ≡ s
 project-answer = one-answer projectSays project.Projected project.Refused (λ a. refl) (λ why. refl) project-made
+
+-- of the draw, of the ledger or by strata
+draw-answer : {o : Outcome ℕ} (r s : DrawAnswer) → drawSays r ≡ o → drawSays s ≡ o → r ≡ s
+draw-answer = one-answer drawSays draw.Drawn draw.Refused (λ a. refl) (λ why. refl) draw-made
+
+-- and of the plan and the projection by strata
+strata-answer : {o : Outcome ℕ} (r s : StrataAnswer) → strataSays r ≡ o → strataSays s ≡ o → r ≡ s
+strata-answer = one-answer strataSays strata.Strata strata.Refused (λ a. refl) (λ why. refl) strata-made
 
 -- the operations that C has too
 size-once : (percent total te ae : ℕ) → One (SizePromise percent total te ae)
@@ -97,8 +116,7 @@ start-once : (J : ℕ) (words : List ℕ) → One (StartPromise J words)
 start-once _ _ r s p q = one-answer startSays start.Started start.Refused (λ a. refl) (λ why. refl) start-made r s (p .answer) (q .answer)
 
 draw-once : (ledger : List ℕ) (n start : ℕ) (marks : List ℕ) → OneWith (DrawPromise ledger n start marks)
-draw-once _ _ _ _ r s _ _ p q =
-    (one-answer drawSays draw.Drawn draw.Refused (λ a. refl) (λ why. refl) draw-made r s (p .answer) (q .answer), p .marks-left ∙ sym (q .marks-left))
+draw-once _ _ _ _ r s _ _ p q = (draw-answer r s (p .answer) (q .answer), p .marks-left ∙ sym (q .marks-left))
 
 project-once : (ledger : List ℕ) (n start : ℕ) (errors : List ℤ) → One (ProjectPromise ledger n start errors)
 project-once _ _ _ _ r s p q = project-answer r s (p .answer) (q .answer)
@@ -108,6 +126,23 @@ lines-once _ _ _ _ _ r s _ _ p q = (project-answer r s (p .answer) (q .answer), 
 
 judge-once : (percent : ℕ) (ledger : List ℕ) (n start : ℕ) (errors : List ℤ) (te : ℕ) → One (JudgePromise percent ledger n start errors te)
 judge-once _ _ _ _ _ _ r s p q = one-answer judgeSays judge.Judged judge.Refused (λ a. refl) (λ why. refl) judge-made r s (p .answer) (q .answer)
+
+-- those by strata: whatever the outcome is, it has one answer with one array of rows
+plan-once : (o : Outcome (List Row)) → One (PlanPromise o)
+plan-once _ r s p q = λ i. record { answer = strata-answer (r .answer) (s .answer) (p .answer) (q .answer) i; rows = (p .rows ∙ sym (q .rows)) i }
+
+strata-draw-once : (ledger counts : List ℕ) (n : ℕ) (starts marks : List ℕ) → OneWith (DrawStrataPromise ledger counts n starts marks)
+strata-draw-once _ _ _ _ _ r s _ _ p q = (draw-answer r s (p .answer) (q .answer), p .marks-left ∙ sym (q .marks-left))
+
+strata-project-once : (o : Outcome (List ProjectionRow)) → One (ProjectStrataPromise o)
+strata-project-once _ r s p q =
+    λ i. record {
+      answer = strata-answer (r .answer) (s .answer) (p .answer) (q .answer) i;
+      over = (p .over ∙ sym (q .over)) i;
+      under = (p .under ∙ sym (q .under)) i;
+      net = (p .net ∙ sym (q .net)) i;
+      rows = (p .rows ∙ sym (q .rows)) i;
+    }
 
 reads-once : (file words values : List ℕ) (errors : List ℤ) → OneWith (λ r (b : Three). ReadPromise file words values errors r (b .0) (b .1) (b .2))
 reads-once _ _ _ _ _ _ _ _ p q = let same = read-once p q in (same .0, λ i. (same .1 i, same .2 i, same .3 i))
@@ -151,6 +186,10 @@ no-freedom =
       project-lines = lines-once;
       judge = judge-once;
       steps = λ _ _ _ _ _ _ p q. steps-once p q;
+      strata-plan = λ _ _ _ _. plan-once _;
+      strata-started = λ _ _ _ _ _. plan-once _;
+      strata-draw = strata-draw-once;
+      strata-project = λ _ _ _ _ _. strata-project-once _;
       read = reads-once;
       write = writes-once;
       write-then-read = written-then-read-once;
@@ -166,6 +205,9 @@ no-freedom =
       mus-project = λ ledger n start errors. sees (project-once ledger n start errors);
       mus-project-lines = λ ledger n start errors amounts. sees-with (lines-once ledger n start errors amounts);
       mus-judge = λ percent ledger n start errors te. sees (judge-once percent ledger n start errors te);
+      mus-strata-plan = λ _ _ _. sees (plan-once _);
+      mus-strata-draw = λ ledger counts n starts marks. sees-with (strata-draw-once ledger counts n starts marks);
+      mus-strata-project = λ _ _ _ _ _. sees (strata-project-once _);
       mus-read = λ file words values errors. sees-with (reads-once file words values errors);
       mus-write = λ plan words values errors file. sees-with (writes-once plan words values errors file);
       mus-sheet = λ file page. sees-with (sheets-once file page);

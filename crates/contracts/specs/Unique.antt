@@ -2,6 +2,7 @@
 -- and in each lent buffer. Each promise is the one that the operation's own contract cites. Definitions: nothing is assumed.
 use Prim.Native.Nat.{ℕ}
 use mathlib.Core.Path.{_≡_}
+use mathlib.Core.Bool.{Bool, true}
 use mathlib.Core.List.{List}
 use lib.IntN.{ℤ}
 use Rattle.terms.specs.declared.Refusal.{Refusal}
@@ -16,6 +17,10 @@ use Rattle.draw.specs.Draw.{drawSays, DrawPromise}
 use Rattle.project.specs.Project.{projectSays, ProjectPromise}
 use Rattle.lines.specs.Each.{LinesPromise}
 use Rattle.judge.specs.Judge.{judgeSays, JudgePromise}
+use Rattle.strata.specs.Strata.{planOf, PlanPromise}
+use Rattle.strata.specs.Starts.{startedOf}
+use Rattle.stratified.specs.Marks.{DrawStrataPromise}
+use Rattle.stratified.specs.Projection.{projectStrataOf, ProjectStrataPromise}
 use Rattle.steps.specs.Steps.{StepsPromise}
 use Rattle.workfile.specs.declared.Plan.{Plan}
 use Rattle.workfile.specs.Promises.{readSays, writeSays, ReadPromise, WritePromise}
@@ -27,6 +32,7 @@ use Rattle.notation.specs.Parse.{ParsePromise}
 use Rattle.faults.specs.Faults.{faultText}
 use Rattle.results.specs.Seen.{Sees}
 use Rattle.results.specs.Results.{sizeSeen, splitSeen, startSeen, drawSeen, projectSeen, judgeSeen, readSeen, writeSeen, sheetSeen}
+use Rattle.results.specs.Strata.{strataPlanSeen, strataDrawSeen, strataProjectSeen}
 
 -- any two results that meet it agree: an answer alone, and an answer with what is left in the lent buffers
 abbrev pub One : {R : Type 0} → (R → Type 0) → Type 0
@@ -54,6 +60,11 @@ pub record NoFreedom : Type 0 where
   pub project-lines : (ledger : List ℕ) (n start : ℕ) (errors amounts : List ℤ) → OneWith (LinesPromise ledger n start errors amounts)
   pub judge : (percent : ℕ) (ledger : List ℕ) (n start : ℕ) (errors : List ℤ) (te : ℕ) → One (JudgePromise percent ledger n start errors te)
   pub steps : (plan : Plan) (words ledger : List ℕ) (errors : List ℤ) → One (StepsPromise plan words ledger errors)
+  -- the ledger by strata; what the others start from too
+  pub strata-plan : (ledger counts : List ℕ) (n : ℕ) (same : Bool) → One (PlanPromise (planOf ledger counts n same))
+  pub strata-started : (ledger counts : List ℕ) (n : ℕ) (starts : List ℕ) (beside : ℕ) → One (PlanPromise (startedOf ledger counts n starts beside))
+  pub strata-draw : (ledger counts : List ℕ) (n : ℕ) (starts marks : List ℕ) → OneWith (DrawStrataPromise ledger counts n starts marks)
+  pub strata-project : (ledger counts : List ℕ) (n : ℕ) (starts : List ℕ) (errors : List ℤ) → One (ProjectStrataPromise (projectStrataOf ledger counts n starts errors))
   -- the working file, its sheet, and the text
   pub read : (file words values : List ℕ) (errors : List ℤ) → OneWith (λ r (b : Three). ReadPromise file words values errors r (b .0) (b .1) (b .2))
   pub write : (plan : Plan) (words values : List ℕ) (errors : List ℤ) (file : List ℕ) → OneWith (WritePromise plan words values errors file)
@@ -74,6 +85,11 @@ pub record NoFreedom : Type 0 where
       → OneWith (λ r b. Sees projectSeen projectSays (λ a. LinesPromise ledger n start errors amounts a b) r)
   pub mus-judge : (percent : ℕ) (ledger : List ℕ) (n start : ℕ) (errors : List ℤ) (te : ℕ)
       → One (Sees judgeSeen judgeSays (JudgePromise percent ledger n start errors te))
+  pub mus-strata-plan : (ledger counts : List ℕ) (n : ℕ) → One (Sees strataPlanSeen (λ a. a) (PlanPromise (planOf ledger counts n true)))
+  pub mus-strata-draw : (ledger counts : List ℕ) (n : ℕ) (starts marks : List ℕ)
+      → OneWith (λ r b. Sees strataDrawSeen drawSays (λ a. DrawStrataPromise ledger counts n starts marks a b) r)
+  pub mus-strata-project : (ledger counts : List ℕ) (n : ℕ) (starts : List ℕ) (errors : List ℤ)
+      → One (Sees strataProjectSeen (λ a. a) (ProjectStrataPromise (projectStrataOf ledger counts n starts errors)))
   pub mus-read : (file words values : List ℕ) (errors : List ℤ)
       → OneWith (λ r (b : Three). Sees readSeen readSays (λ a. ReadPromise file words values errors a (b .0) (b .1) (b .2)) r)
   pub mus-write : (plan : Plan) (words values : List ℕ) (errors : List ℤ) (file : List ℕ)

@@ -2,5 +2,6 @@
 pub mod Sums
 pub mod Fair
 pub mod Demand3
+pub mod Strata
 pub mod Worked
 pub mod Practice

@@ -1,3 +1,4 @@
 pub mod Starts
 pub mod Demand3
+pub mod Strata
 pub mod Practice

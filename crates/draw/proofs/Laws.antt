@@ -2,20 +2,20 @@
 -- drawn exactly when it is sampled and covers a drawing point. Assumes nothing.
 use mathlib.Core.Path.{_≡_, refl, sym, ap, _∙_}
 use mathlib.Core.Bool.{Bool, true, false}
-use mathlib.Core.List.{List, [], _∷_}
+use mathlib.Core.List.{List, [], _∷_, _++_}
 use mathlib.Core.Logic.{_↔_, ⊎-elim}
-use Prim.Native.Nat.{ℕ, zero, suc, _+_, _≤_, _<_}
+use Prim.Native.Nat.{ℕ, zero, suc, _+_, _≤_, _<_, zero-le}
 use native.Mathlib.Nat.{add-zero, zero-add, add-assoc, eq-zero-or-pos, not-suc-le-zero, le-of-suc-le-suc}
 use native.Mathlib.Numerals.{add-one}
 use native.Mathlib.Omega.{arith}
 use borrow.Author.Tests.{ltb-false, le-ltb, lt-ltb, le-leb, lt-leb}
-use lib.Dec.{T, ltb→lt}
+use lib.Dec.{T, eqb, ltb→lt}
 use lib.ListN.{length, getD, drop}
 use lib.Seq.{drop-cons}
 use Rattle.terms.specs.Outcome.{accepted, after, left}
 use Rattle.terms.specs.Numbers.{sum}
 use Rattle.terms.proofs.Outcomes.{Gives, gives-after, after-accepted}
-use Rattle.terms.proofs.Tests.{le-or-lt}
+use Rattle.terms.proofs.Tests.{by-test, le-or-lt}
 use Rattle.split.specs.declared.Figures.{Figures}
 use Rattle.split.specs.Rounds.{upTo}
 use Rattle.split.specs.Start.{figuresFor}
@@ -25,6 +25,17 @@ use Rattle.draw.specs.Points.{Covers, points, covers}
 use Rattle.draw.specs.Row.{full, cents, rowCents, firstCent, markBy, marksFrom, drawMarks, ones}
 use Rattle.draw.specs.Draw.{marksAt, drawOf}
 use Rattle.draw.proofs.Points.{covers-agrees}
+
+-- how many marks are 1: of two lists after each other, and never more than there are marks
+pub ones-append : (marks more : List ℕ) → ones (marks ++ more) ≡ ones marks + ones more
+unfolding ones
+ones-append [] more = omega arith
+ones-append (mark ∷ marks) more = omega (arith, ones-append marks more)
+
+pub ones-most : (marks : List ℕ) → ones marks ≤ length marks
+unfolding ones
+ones-most [] = zero-le
+ones-most (mark ∷ marks) = by-test (λ (k : ℕ). k + ones marks ≤ suc (length marks)) (eqb mark 1) (λ t. omega (arith, ones-most marks)) (λ t. omega (arith, ones-most marks))
 
 -- The definitions, clause by clause.
 pub draw-marks : (J s : ℕ) (ledger : List ℕ) → drawMarks J s ledger ≡ marksFrom J s 0 ledger

@@ -5,6 +5,7 @@ use crate::input::eight;
 use crate::input::four;
 use crate::lists;
 use crate::signs;
+use parts::part;
 use parts::part_to_fill;
 
 // The place of the first list.
@@ -80,6 +81,20 @@ pub fn errors<'a>(input: &[u8], patterns: &mut [u64], errors: &'a mut [i64]) -> 
 pub fn amounts<'a>(input: &[u8], patterns: &mut [u64], amounts: &'a mut [i64]) -> &'a mut [i64] {
     let count = lists::lay(input, words_at(input), patterns, 0);
     signs::read(patterns, count, amounts)
+}
+
+// Counts stand in the place of the words, so many of them, and starts after them.
+pub fn counts(words: &[u64], strata: u64) -> &[u64] {
+    part(words, 0, strata as usize)
+}
+
+pub fn starts(words: &[u64], strata: u64) -> &[u64] {
+    let from = strata as usize;
+    if from <= words.len() {
+        let rest = words.len() - from;
+        return part(words, from, rest);
+    }
+    words
 }
 
 // The file of a read, after the lists; `latest` is the room of bytes that was lent last.

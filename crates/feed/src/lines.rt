@@ -24,22 +24,48 @@ fn put_name(pen: Pen, page: &mut [u8], operation: u8) -> Pen {
         7 => pen.text(page, b" read"),
         8 => pen.text(page, b" write"),
         9 => pen.text(page, b" lines"),
+        10 => pen.text(page, b" strataplan"),
+        11 => pen.text(page, b" stratadraw"),
+        12 => pen.text(page, b" strataproject"),
         _ => pen.text(page, b" is of no operation"),
     }
 }
 
-// The digests of what was lent: the room or the file, and each list; amounts stand in the place of the words.
+// The digests of what was lent: the room or the file, and each list; amounts, or counts and starts, stand in the place of the words. And
+// that of the strata's rows.
 struct Digests {
     bytes: u64,
     ledger: u64,
     errors: u64,
     words: u64,
+    rows: u64,
 }
 
 // " lent" and digests.
 fn put_lent(pen: Pen, page: &mut [u8], digests: &[u64]) -> Pen {
     let lent = pen.text(page, b" lent");
     lent.fields(page, digests)
+}
+
+// " rows" and the digest of the strata's rows.
+fn put_rows(pen: Pen, page: &mut [u8], rows: u64) -> Pen {
+    let told = pen.text(page, b" rows");
+    told.fields(page, &[rows])
+}
+
+// The digests of what an operation by strata was lent, after those of its rows; a draw has none.
+fn put_by_strata(pen: Pen, page: &mut [u8], operation: u8, d: Digests) -> Pen {
+    match operation {
+        10 => {
+            let told = put_rows(pen, page, d.rows);
+            put_lent(told, page, &[d.ledger, d.words])
+        }
+        11 => put_lent(pen, page, &[d.ledger, d.words, d.bytes]),
+        _ => {
+            let told = put_rows(pen, page, d.rows);
+            put_lent(told, page, &[d.ledger, d.errors, d.words])
+        }
+    }
 }
 
 // The digests of what an operation was lent.
@@ -51,6 +77,7 @@ fn put_digests(pen: Pen, page: &mut [u8], operation: u8, d: Digests) -> Pen {
         5 | 6 => put_lent(pen, page, &[d.ledger, d.errors]),
         7 => put_lent(pen, page, &[d.bytes, d.words, d.ledger, d.errors]),
         9 => put_lent(pen, page, &[d.ledger, d.errors, d.words]),
+        10..=12 => put_by_strata(pen, page, operation, d),
         _ => put_lent(pen, page, &[d.words, d.ledger, d.errors, d.bytes]),
     }
 }
@@ -84,6 +111,7 @@ pub fn tell(
         ledger: digest_numbers(ledger),
         errors: digest_signed(errors),
         words: digest_numbers(words),
+        rows: 0,
     };
     write(number, operation, answer, digests);
 }
@@ -95,6 +123,27 @@ pub fn tell_lines(number: u64, answer: Answer, ledger: &[u64], errors: &[i64], a
         ledger: digest_numbers(ledger),
         errors: digest_signed(errors),
         words: digest_signed(amounts),
+        rows: 0,
     };
     write(number, 9, answer, digests);
+}
+
+// The line of a case that has the strata's rows.
+pub fn tell_rows(
+    number: u64,
+    operation: u8,
+    answer: Answer,
+    rows: u64,
+    ledger: &[u64],
+    errors: &[i64],
+    words: &[u64],
+) {
+    let digests = Digests {
+        bytes: 0,
+        ledger: digest_numbers(ledger),
+        errors: digest_signed(errors),
+        words: digest_numbers(words),
+        rows,
+    };
+    write(number, operation, answer, digests);
 }

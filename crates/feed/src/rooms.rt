@@ -22,14 +22,19 @@ fn digest_more(digest: u64, entry: u64) -> u64 {
     (digest % MODULUS * 31 + entry % MODULUS) % MODULUS
 }
 
-pub fn digest_numbers(entries: &[u64]) -> u64 {
-    let mut digest: u64 = 1;
+// The digest with more entries.
+pub fn digest_on(start: u64, entries: &[u64]) -> u64 {
+    let mut digest = start;
     let mut i: usize = 0;
     while i < entries.len() {
         digest = digest_more(digest, entries[i]);
         i += 1;
     }
     digest
+}
+
+pub fn digest_numbers(entries: &[u64]) -> u64 {
+    digest_on(1, entries)
 }
 
 // Each number with a sign by its pattern.

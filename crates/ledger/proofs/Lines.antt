@@ -1,18 +1,20 @@
--- The cases of `runningFrom` and of `ledgerOf`, as the loop over the lines and the chain of tests meet them. Assumes nothing.
+-- The cases of `runningFrom` and of `ledgerWith`, as the loop over the lines and the chain of tests meet them. Assumes nothing.
 use mathlib.Core.Path.{_≡_, refl, sym, ap, _∙_}
+use mathlib.Core.Bool.{Bool, true, false, not}
 use mathlib.Core.List.{List}
 use Prim.Native.Nat.{ℕ, _+_, _≤_, _<_}
 use native.Mathlib.Numerals.{add-one}
 use native.Mathlib.Omega.{arith}
+use lib.Dec.{eqb}
 use lib.ListN.{length, getD, drop, drop-of-length-le}
 use lib.Seq.{drop-cons}
-use borrow.Author.Tests.{le-ltb, lt-ltb, eq-eqb, ne-eqb}
+use borrow.Author.Tests.{le-ltb, lt-ltb, eq-eqb, ne-eqb, not-true, not-false}
 use Rattle.terms.specs.declared.Refusal.{Refusal}
-use Rattle.terms.specs.Outcome.{accepted, refused, after}
+use Rattle.terms.specs.Outcome.{Outcome, accepted, refused, refusedBy, after}
 use Rattle.terms.specs.Limits.{mostLines, mostValue, mostTotal}
 use Rattle.ledger.specs.declared.LedgerAnswer.{LedgerAnswer}
 use Rattle.ledger.specs.declared.LedgerAnswer.the-variants.{Total, Refused}
-use Rattle.ledger.specs.Ledger.{ledgerSays, runningFrom, runningTotal, someTotal, ledgerOf, LedgerPromise}
+use Rattle.ledger.specs.Ledger.{ledgerSays, runningFrom, runningTotal, someTotal, ledgerWith, ledgerOf, LedgerPromise}
 
 -- where `judge_lines` stands before a line: judging on from here gives what judging the whole does
 pub record Judging (l : List ℕ) (running line : ℕ) : Type 0 where
@@ -41,27 +43,32 @@ module _ {l : List ℕ} {running line : ℕ} (at : Judging l running line) where
   unfolding runningFrom
   no-line h = sym (rw (drop-of-length-le l h)) ∙ at .rest
 
--- The order of the refusals, as `judge_ledger` meets them.
-module _ {l : List ℕ} {beside : ℕ} where
-  pub too-many-lines : mostLines < length l → LedgerPromise l beside (Refused Refusal.TooManyLines)
-  unfolding ledgerOf
-  too-many-lines h = record { answer = simp (lt-ltb _ _ h) }
+-- The order of the refusals, as `judge_lent` meets them.
+module _ (l : List ℕ) (same : Bool) where
+  pub too-many-lines : mostLines < length l → refused 2 0 ≡ ledgerWith l same
+  unfolding ledgerWith
+  too-many-lines h = sym (simp (lt-ltb _ _ h))
 
-  pub lengths-differ : length l ≤ mostLines → (beside ≡ length l → ⊥) → LedgerPromise l beside (Refused Refusal.LengthsDiffer)
-  unfolding ledgerOf
-  lengths-differ few h = record { answer = simp (le-ltb _ _ few, ne-eqb _ _ h) }
+  pub lengths-differ : length l ≤ mostLines → not same ≡ true → refused 13 0 ≡ ledgerWith l same
+  unfolding ledgerWith
+  lengths-differ few e = sym (simp (le-ltb _ _ few, not-true same e))
 
   -- what the lines come to
-  module _ {lines : LedgerAnswer} (few : length l ≤ mostLines) (same : beside ≡ length l) (judged : ledgerSays lines ≡ runningTotal l) where
-    from-lines : {r seen : LedgerAnswer} → lines ≡ seen → ledgerSays r ≡ after someTotal (ledgerSays seen) → LedgerPromise l beside r
-    unfolding ledgerOf
-    from-lines e f = record { answer = f ∙ ap (λ a. after someTotal (ledgerSays a)) (sym e) ∙ simp (le-ltb _ _ few, eq-eqb _ _ same, judged) }
+  module _ {lines : LedgerAnswer} (few : length l ≤ mostLines) (agree : not same ≡ false) (judged : ledgerSays lines ≡ runningTotal l) where
+    from-lines : {o : Outcome ℕ} {seen : LedgerAnswer} → lines ≡ seen → o ≡ after someTotal (ledgerSays seen) → o ≡ ledgerWith l same
+    unfolding ledgerWith
+    from-lines e f = f ∙ ap (λ a. after someTotal (ledgerSays a)) (sym e) ∙ sym (simp (le-ltb _ _ few, not-false same agree, sym judged))
 
-    pub line-refused : {why : Refusal} → lines ≡ Refused why → LedgerPromise l beside (Refused why)
+    pub line-refused : {why : Refusal} → lines ≡ Refused why → refusedBy why ≡ ledgerWith l same
     line-refused e = from-lines e refl
 
-    pub total-zero : {total : ℕ} → lines ≡ Total total → total ≡ 0 → LedgerPromise l beside (Refused Refusal.TotalZero)
-    total-zero e z = from-lines e (simp (eq-eqb _ _ z))
+    pub total-zero : {total : ℕ} → lines ≡ Total total → total ≡ 0 → refused 5 0 ≡ ledgerWith l same
+    total-zero e z = from-lines e (sym (simp (eq-eqb _ _ z)))
 
-    pub some-total : {total : ℕ} → lines ≡ Total total → (total ≡ 0 → ⊥) → LedgerPromise l beside (Total total)
-    some-total e n = from-lines e (simp (ne-eqb _ _ n))
+    pub some-total : {total : ℕ} → lines ≡ Total total → (total ≡ 0 → ⊥) → accepted total ≡ ledgerWith l same
+    some-total e n = from-lines e (sym (simp (ne-eqb _ _ n)))
+
+-- as `judge_ledger` meets it
+pub one-lent : {l : List ℕ} {beside : ℕ} {r : LedgerAnswer} → ledgerSays r ≡ ledgerWith l (eqb beside (length l)) → LedgerPromise l beside r
+unfolding ledgerOf
+one-lent e = record { answer = e }

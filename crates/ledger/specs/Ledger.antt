@@ -1,6 +1,7 @@
 -- What the judgement of a ledger answers: refusals 2, 13, 3 and 4, 5, or the total. Definitions: nothing is assumed.
 use mathlib.Core.Path.{_≡_}
 use Prim.Native.Nat.{ℕ, _+_, suc}
+use mathlib.Core.Bool.{Bool}
 use mathlib.Core.List.{List, [], _∷_}
 use lib.ListN.{length}
 use lib.Dec.{ltb, eqb}
@@ -30,10 +31,14 @@ runningTotal ledger = runningFrom 0 0 ledger
 abbrev pub someTotal : ℕ → Outcome ℕ
 someTotal total = pick (eqb total 0) (refused 5 0) (accepted total)
 
--- the order: 2, 13, the lines, 5; `beside` is the length of the buffer that is lent with the ledger
+-- the order: 2, 13, the lines, 5; `same` says whether every list that is lent with the ledger has its length
+unfoldable pub ledgerWith : List ℕ → Bool → Outcome ℕ
+ledgerWith ledger same = pick (ltb mostLines (length ledger)) (refused 2 0) (pick same (after someTotal (runningTotal ledger)) (refused 13 0))
+
+-- one buffer is lent with the ledger; `beside` is its length
 unfoldable pub ledgerOf : List ℕ → ℕ → Outcome ℕ
-ledgerOf ledger beside =
-    pick (ltb mostLines (length ledger)) (refused 2 0) (pick (eqb beside (length ledger)) (after someTotal (runningTotal ledger)) (refused 13 0))
+unfolding ledgerWith
+ledgerOf ledger beside = ledgerWith ledger (eqb beside (length ledger))
 
 -- what `judge_ledger` promises of a ledger, the length beside it and the answer
 pub record LedgerPromise (ledger : List ℕ) (beside : ℕ) (r : LedgerAnswer) : Type 0 where

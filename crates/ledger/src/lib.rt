@@ -1,7 +1,7 @@
 // The judgement of a lent ledger: its length, its lines one by one, and its total.
 use terms::Refusal;
 ghost use mathlib.Core.Path.{_≡_};
-ghost use Rattle.ledger.specs.Ledger.{ledgerSays, runningTotal, LedgerPromise};
+ghost use Rattle.ledger.specs.Ledger.{ledgerSays, runningTotal, ledgerWith, LedgerPromise};
 
 // A ledger's total, or the first refusal.
 pub enum LedgerAnswer {
@@ -29,14 +29,14 @@ fn judge_lines(ledger: &[u64]) -> LedgerAnswer
     LedgerAnswer::Total(total)
 }
 
-// Refusals 2, 13, 3 and 4, 5, in this order. `beside` is the length of the buffer that is lent with the ledger.
-pub fn judge_ledger(ledger: &[u64], beside: usize) -> LedgerAnswer
-    ensures { λ r. ⌜ LedgerPromise (now (ledger .entry)) beside r ⌝ }
+// Refusals 2, 13, 3 and 4, 5, in this order. `same` says whether every list that is lent with the ledger has its length.
+pub fn judge_lent(ledger: &[u64], same: bool) -> LedgerAnswer
+    ensures { λ r. ⌜ ledgerSays r ≡ ledgerWith (now (ledger .entry)) same ⌝ }
 {
     if ledger.len() > terms::MOST_LINES {
         return LedgerAnswer::Refused(Refusal::TooManyLines);
     }
-    if beside != ledger.len() {
+    if !same {
         return LedgerAnswer::Refused(Refusal::LengthsDiffer);
     }
     match judge_lines(ledger) {
@@ -49,4 +49,11 @@ pub fn judge_ledger(ledger: &[u64], beside: usize) -> LedgerAnswer
             }
         }
     }
+}
+
+// The same, where one buffer is lent with the ledger; `beside` is its length.
+pub fn judge_ledger(ledger: &[u64], beside: usize) -> LedgerAnswer
+    ensures { λ r. ⌜ LedgerPromise (now (ledger .entry)) beside r ⌝ }
+{
+    judge_lent(ledger, beside == ledger.len())
 }

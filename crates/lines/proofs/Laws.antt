@@ -19,7 +19,7 @@ use Rattle.signed.specs.Errors.{sizeOf, isUnder, signedOf}
 use Rattle.signed.specs.Parts.{partOf, parts, netOf}
 use Rattle.signed.proofs.Laws.{part-is-size, parts-at, parts-drop}
 use Rattle.signed.proofs.Lists.{parts-nil, parts-cons, signs-nil, signs-cons, signs-length, partBy, part-by, signed-part, net-of-parts}
-use Rattle.ledger.proofs.Lines.{lengths-differ}
+use Rattle.ledger.proofs.Laws.{length-refused}
 use Rattle.split.specs.declared.Figures.{Figures}
 use Rattle.split.specs.Start.{figuresFor}
 use Rattle.split.proofs.Facts.{from-ledger}
@@ -110,7 +110,7 @@ module _ (ledger : List ℕ) (n start : ℕ) (errors : List ℤ) where
     -- 13 comes where either differs, after 2
     pub differ-refused : length ledger ≤ mostLines → ((length errors ≡ length ledger) × (length amounts ≡ length ledger) → ⊥) → refused 13 0 ≡ projectLinesOf ledger n start errors beside
     differ-refused few differ =
-        let judged = lengths-differ {l = ledger} {beside = beside} few (λ e. differ (beside-same _ _ _ e)) .answer in
+        let judged = length-refused ledger beside few (λ e. differ (beside-same _ _ _ e)) in
         projection-from ledger n start errors beside (from-split ledger n start beside (from-ledger ledger n beside judged))
 
 -- what an accepted call leaves and answers: what the lines of the projection project at the final interval, and what they add up to

@@ -103,6 +103,13 @@ checked-rest item l ls good e =
     let b = after-accepted (λ rest. accepted (a .0 ∷ rest)) (checkedFrom (suc item) ls) good (a .2) in
     record { sound = checked-sound item l (a .0) (a .1); rest = checked-same (suc item) ls (b .0) (b .1) }
 
+-- lines that pass from one number on pass from any other
+pub checked-anywhere : (item other : ℕ) (ls good : List Line) → checkedFrom item ls ≡ accepted good → checkedFrom other ls ≡ accepted ls
+checked-anywhere item other [] good e = checked-none other
+checked-anywhere item other (l ∷ ls) good e =
+    let c = checked-rest item l ls good e in
+    checked-before other l ls (c .sound .within) (c .sound .fine) (checked-anywhere (suc item) (suc other) ls ls (c .rest))
+
 -- the refusals of lines
 abbrev pub lineNumbers : List ℕ
 lineNumbers = 14 ∷ 15 ∷ []

@@ -33,7 +33,7 @@ use Rattle.project.specs.Lines.{amount, stateBy, linesFrom, linesOf}
 use Rattle.project.specs.Project.{checkedFrom, checkedLines, linesWith, bothKinds, projectionAt, projectedBy, projectOf, ProjectPromise, Ready}
 use Rattle.project.specs.Gather.{GatherPromise}
 use Rattle.project.proofs.Lines.{lines-walked}
-use Rattle.project.proofs.Checking.{checked-same, lineNumbers, checked-gives}
+use Rattle.project.proofs.Checking.{checked-same, checked-anywhere, lineNumbers, checked-gives}
 use Rattle.project.proofs.Less.{less-pass}
 use Rattle.project.proofs.Facts.{LinesFacts, lines-facts}
 
@@ -70,6 +70,13 @@ module _ (item J start : ℕ) (ledger : List ℕ) (errors : List ℤ) where
   pub projection-refused : {n p : ℕ} → refused n p ≡ projectionAt item J start ledger errors → checkedLines item J start ledger (parts Size errors) ≡ refused n p
   unfolding projectionAt
   projection-refused e = refused-first (λ lines. bothKinds J start ledger errors) (checkedLines item J start ledger (parts Size errors)) e
+
+  -- an accepted projection is the same whatever number the first line has
+  pub first-alone : (other : ℕ) (p : Projection) → projectionAt item J start ledger errors ≡ accepted p → projectionAt other J start ledger errors ≡ accepted p
+  unfolding projectionAt checkedLines
+  first-alone other p e =
+      let a = after-accepted (λ lines. accepted (bothKinds J start ledger errors)) (checkedLines item J start ledger (parts Size errors)) p e in
+      ap (after (λ lines. accepted (bothKinds J start ledger errors))) (checked-anywhere item other (linesWith Size J start ledger errors) (a .0) (a .1)) ∙ a .2
 
   -- where the sizes pass, each part does
   pub parts-checked : (good : List Line) → checkedLines item J start ledger (parts Size errors) ≡ accepted good → (part : Part) →

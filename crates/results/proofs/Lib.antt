@@ -1,4 +1,5 @@
 -- What the proofs of several functions use, and worked cases.
 pub mod Refused
+mod Rows
 mod Shown
 pub mod Worked

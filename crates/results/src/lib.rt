@@ -1,5 +1,6 @@
 // What a caller in C sees of each operation's answer: a struct of the refusal's number and place, 0 where the call is accepted, and the
 // figures, 0 where it is refused.
+pub mod by_strata; // by_strata.rt: answers of the operations by strata
 pub mod file; // file.rt: answers of the working file and its sheet
 pub mod steps; // steps.rt: answers of the steps
 
@@ -61,6 +62,55 @@ pub struct JudgeResult {
     pub precision: u64,
     pub upper_limit: u64,
     pub verdict: u64,
+}
+
+// A stratum's draws, and its own split.
+#[repr(C)]
+pub struct StratumPlan {
+    pub draws: u64,
+    pub interval: u64,
+    pub draws_left: u64,
+    pub sampled_total: u64,
+    pub full_lines: u64,
+    pub full_total: u64,
+}
+
+#[repr(C)]
+pub struct StrataPlanResult {
+    pub refusal: u64,
+    pub place: u64,
+    pub strata: u64,
+    pub stratum: [StratumPlan; 32],
+}
+
+#[repr(C)]
+pub struct StrataDrawResult {
+    pub refusal: u64,
+    pub place: u64,
+    pub drawn: u64,
+}
+
+// A stratum's draws and interval, and both sums of each kind of error.
+#[repr(C)]
+pub struct StratumProjection {
+    pub draws: u64,
+    pub interval: u64,
+    pub full: u64,
+    pub sampled: u64,
+    pub under_full: u64,
+    pub under_sampled: u64,
+}
+
+// No limit and no verdict.
+#[repr(C)]
+pub struct StrataProjectResult {
+    pub refusal: u64,
+    pub place: u64,
+    pub over: u64,
+    pub under: u64,
+    pub net: i64,
+    pub strata: u64,
+    pub stratum: [StratumProjection; 32],
 }
 
 #[repr(C)]

@@ -93,7 +93,7 @@ unfolding splitOf
 split-facts ledger n beside f e =
     let a = after-accepted (λ total. figuresFrom ledger n) (ledgerOf ledger beside) f e in
     let g = good ledger beside (a .0) (a .1) in
-    let whole : Good ledger beside (sum ledger) = record { few = g .few; same = g .same; added = refl; some = omega arith; most = omega arith } in
+    let whole : Good ledger beside (sum ledger) = record { few = g .few; same = g .same; added = refl; some = omega arith; most = omega arith; each = g .each } in
     facts-settled ledger n (some-draws ledger n (a .2)) beside f whole (a .2)
 
 -- the split keeps a draw: the lines above J are always fewer than the draws (`few` of Laws.antt)

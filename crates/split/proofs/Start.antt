@@ -1,7 +1,7 @@
 -- A start against the split's interval: what follows from the split's outcome, what is known where the start fits, and which refusals are
 -- given. Assumes nothing.
-use mathlib.Core.Path.{_≡_, sym, ap, _∙_}
-use mathlib.Core.Bool.{true}
+use mathlib.Core.Path.{_≡_, refl, sym, ap, _∙_}
+use mathlib.Core.Bool.{Bool, true, false}
 use mathlib.Core.List.{List, [], _∷_, _++_}
 use mathlib.Core.Logic.{⊎-elim}
 use Prim.Native.Nat.{ℕ, _≤_, _<_}
@@ -11,6 +11,7 @@ use borrow.Author.Tests.{ltb-true, eqb-true, lt-ltb, le-ltb, eq-eqb, ne-eqb}
 use lib.Dec.{eqb}
 use Rattle.terms.specs.declared.Refusal.{Refusal}
 use Rattle.terms.specs.Outcome.{Outcome, accepted, refused, refusedBy, after}
+use Rattle.terms.specs.Numbers.{pick}
 use Rattle.terms.proofs.Outcomes.{never, after-accepted, Gives, gives-after, gives-among}
 use Rattle.terms.proofs.Tests.{by-test}
 use Rattle.ledger.specs.Ledger.{ledgerOf}
@@ -41,26 +42,30 @@ module _ (ledger : List ℕ) (n start : ℕ) {r : SplitAnswer} where
   unfolding figuresAt
   at-start is e s = s ∙ ap (after (startIn start)) (sym (ap splitSays is) ∙ e)
 
--- where the start stands to the interval
-module _ (start : ℕ) (f : Figures) where
-  pub start-below : start < f .interval → accepted f ≡ startIn start f
-  start-below h =
-      let some : f .interval ≡ 0 → ⊥ = λ z. omega arith in
+-- where the start stands to the interval, as `start_fits` meets it
+module _ (start J : ℕ) where
+  pub fits-below : start < J → true ≡ startFits start J
+  fits-below h =
+      let some : J ≡ 0 → ⊥ = λ z. omega arith in
       sym (simp (ne-eqb _ _ some, lt-ltb _ _ h))
 
-  pub start-none : f .interval ≤ start → start ≤ 0 → accepted f ≡ startIn start f
-  start-none h l =
-      let none : f .interval ≡ 0 = omega arith in
-      let first : start ≡ 0 = omega arith in
-      sym (simp (eq-eqb _ _ none, eq-eqb _ _ first))
-
-  pub start-outside : f .interval ≤ start → 0 < start → refused 11 0 ≡ startIn start f
-  start-outside h l =
-      let late : start ≡ 0 → ⊥ = λ z. omega arith in
+  pub fits-none : J ≤ start → eqb start 0 ≡ startFits start J
+  fits-none h =
       ⊎-elim
-      (λ (z : f .interval ≡ 0). sym (simp (eq-eqb _ _ z, ne-eqb _ _ late)))
-      (λ (s : 0 < f .interval). let some : f .interval ≡ 0 → ⊥ = λ z. omega arith in sym (simp (ne-eqb _ _ some, le-ltb _ _ h)))
-      (eq-zero-or-pos (f .interval))
+      (λ (z : J ≡ 0). sym (simp (eq-eqb _ _ z)))
+      (λ (s : 0 < J).
+      let some : J ≡ 0 → ⊥ = λ z. omega arith in
+      let late : start ≡ 0 → ⊥ = λ z. omega arith in
+      sym (simp (ne-eqb _ _ some, le-ltb _ _ h, ne-eqb _ _ late)))
+      (eq-zero-or-pos J)
+
+-- and as `start_in` does
+module _ (start : ℕ) (f : Figures) {fits : Bool} (is : fits ≡ startFits start (f .interval)) where
+  pub start-inside : fits ≡ true → accepted f ≡ startIn start f
+  start-inside e = ap (λ (b : Bool). pick b (accepted f) (refused 11 0)) (sym e ∙ is)
+
+  pub start-outside : fits ≡ false → refused 11 0 ≡ startIn start f
+  start-outside e = ap (λ (b : Bool). pick b (accepted f) (refused 11 0)) (sym e ∙ is)
 
 -- what an accepted start gives
 pub record StartFacts (ledger : List ℕ) (n start beside : ℕ) (f : Figures) : Type 0 where
@@ -68,7 +73,7 @@ pub record StartFacts (ledger : List ℕ) (n start beside : ℕ) (f : Figures) :
   pub facts : SplitFacts ledger n beside f
   pub early : start ≤ f .interval
 
-fits-early : (J start : ℕ) → startFits start J ≡ true → start ≤ J
+pub fits-early : (J start : ℕ) → startFits start J ≡ true → start ≤ J
 fits-early J start =
     by-test (λ b. b ≡ true → start ≤ J) (eqb J 0) (λ z e. let q = eqb-true start 0 e in omega arith) (λ z e. let q = ltb-true start J e in omega arith)
 
@@ -100,10 +105,12 @@ module _ {ledger : List ℕ} {n start : ℕ} {r : SplitAnswer} where
 
 -- a start below the interval is accepted, and so is 0 where there is none
 pub start-accepted : (ledger : List ℕ) (n start beside : ℕ) (f : Figures) → splitOf ledger n beside ≡ accepted f → start < f .interval → figuresFor ledger n start beside ≡ accepted f
-start-accepted ledger n start beside f e h = sym (start-below start f h ∙ from-split ledger n start beside (sym e))
+start-accepted ledger n start beside f e h = sym (start-inside start f (fits-below start (f .interval) h) refl ∙ from-split ledger n start beside (sym e))
 
 pub start-zero : (ledger : List ℕ) (n start beside : ℕ) (f : Figures) → splitOf ledger n beside ≡ accepted f → f .interval ≤ start → start ≤ 0 → figuresFor ledger n start beside ≡ accepted f
-start-zero ledger n start beside f e h l = sym (start-none start f h l ∙ from-split ledger n start beside (sym e))
+start-zero ledger n start beside f e h l =
+    let none : start ≡ 0 = omega arith in
+    sym (start-inside start f (fits-none start (f .interval) h) (eq-eqb _ _ none) ∙ from-split ledger n start beside (sym e))
 
 -- the refusals that the figures for a start give
 abbrev pub figuresNumbers : List ℕ

@@ -8,7 +8,7 @@ ghost use lib.ListN.{length};
 ghost use Rattle.terms.specs.Numbers.{sum};
 ghost use Rattle.split.specs.Rounds.{above, splitLines};
 ghost use Rattle.split.specs.Split.{Totalled, Remaining, splitSays, figuresOf, figuresFrom, fullMarks, FiguresPromise, SplitPromise};
-ghost use Rattle.split.specs.Start.{startIn, figuresAt, FiguresForPromise};
+ghost use Rattle.split.specs.Start.{startFits, startIn, figuresAt, FiguresForPromise};
 
 // The final interval and what it leaves: the draws, the sampled lines' total, the full lines and their total.
 pub struct Figures {
@@ -134,17 +134,24 @@ pub fn split(ledger: &[u64], n: u64, marks: &mut [u8]) -> SplitAnswer
     }
 }
 
+// Whether a start fits an interval: it is below it, and 0 where there is none.
+pub fn start_fits(start: Cent, interval: u64) -> bool
+    ensures { λ r. ⌜ r ≡ startFits (start .0) interval ⌝ }
+{
+    if start.0 < interval {
+        return true;
+    }
+    start.0 == 0
+}
+
 // The figures, or 11 where the start does not fit their interval.
 pub fn start_in(start: Cent, figures: Figures) -> SplitAnswer
     ensures { λ r. ⌜ splitSays r ≡ startIn (start .0) figures ⌝ }
 {
-    if start.0 < figures.interval {
+    if start_fits(start, figures.interval) {
         return SplitAnswer::Split(figures);
     }
-    if start.0 > 0 {
-        return SplitAnswer::Refused(Refusal::StartOutOfRange);
-    }
-    SplitAnswer::Split(figures)
+    SplitAnswer::Refused(Refusal::StartOutOfRange(0))
 }
 
 // The figures for a start, from a ledger whose judgement gave this total: 8, 11.

@@ -64,8 +64,11 @@ listed : ℕ → List Refusal
 listed p =
     Refusal.NoLegalFile ∷ Refusal.UnknownLevel ∷ Refusal.TooManyLines ∷ Refusal.ValueTooLarge p ∷ Refusal.TotalTooLarge p ∷
     Refusal.TotalZero ∷ Refusal.ToleranceOutOfRange ∷ Refusal.ToleranceSpent ∷ Refusal.NoDraws ∷ Refusal.NoLegalFile ∷
-    Refusal.IntervalTooLarge ∷ Refusal.StartOutOfRange ∷ Refusal.NoWordPasses p ∷ Refusal.LengthsDiffer ∷ Refusal.ErrorAboveValue p ∷
-    Refusal.ErrorNotDrawn p ∷ Refusal.TooManyErrors ∷ Refusal.FileBreaksRule p ∷ Refusal.RoomTooShort p ∷ Refusal.NoLegalFile ∷ []
+    Refusal.IntervalTooLarge ∷ Refusal.StartOutOfRange p ∷ Refusal.NoWordPasses p ∷ Refusal.LengthsDiffer ∷ Refusal.ErrorAboveValue p ∷
+    Refusal.ErrorNotDrawn p ∷ Refusal.TooManyErrors ∷ Refusal.FileBreaksRule p ∷ Refusal.RoomTooShort p ∷ Refusal.NoLegalFile ∷
+    Refusal.NoLegalFile ∷ Refusal.NoLegalFile ∷ Refusal.StrataOutOfRange ∷ Refusal.TooFewDraws ∷ Refusal.NoLegalFile ∷
+    Refusal.NoLegalFile ∷ Refusal.NoLegalFile ∷ Refusal.NoLegalFile ∷ Refusal.NoLegalFile ∷ Refusal.NoLegalFile ∷
+    Refusal.CountsDoNotAdd ∷ []
 
 entry : List Refusal → ℕ → Refusal
 entry [] k = Refusal.NoLegalFile
@@ -84,7 +87,7 @@ found Refusal.ToleranceOutOfRange = refl
 found Refusal.ToleranceSpent = refl
 found Refusal.NoDraws = refl
 found Refusal.IntervalTooLarge = refl
-found Refusal.StartOutOfRange = refl
+found (Refusal.StartOutOfRange stratum) = refl
 found (Refusal.NoWordPasses words) = refl
 found Refusal.LengthsDiffer = refl
 found (Refusal.ErrorAboveValue line) = refl
@@ -93,6 +96,9 @@ found Refusal.TooManyErrors = refl
 found (Refusal.FileBreaksRule byte) = refl
 found (Refusal.RoomTooShort needed) = refl
 found Refusal.NoLegalFile = refl
+found Refusal.StrataOutOfRange = refl
+found Refusal.TooFewDraws = refl
+found Refusal.CountsDoNotAdd = refl
 
 -- so no two refusals share both
 pub one-refusal : (r s : Refusal) → number r ≡ number s → place r ≡ place s → r ≡ s

@@ -1,4 +1,4 @@
--- The sizes of document 01; the interval's is that of document 02, K4. Definitions: nothing is assumed.
+-- The sizes of document 01; the interval's is that of document 02, K4, and the number of strata that of K6. Definitions: nothing is assumed.
 use Prim.Native.Nat.{ℕ}
 
 abbrev pub mostLines : ℕ
@@ -15,3 +15,6 @@ mostInterval = 1000000000000000
 
 abbrev pub mostErrors : ℕ
 mostErrors = 63
+
+abbrev pub mostStrata : ℕ
+mostStrata = 32

@@ -1,7 +1,8 @@
--- A choice by a test, division rounded up, the sum of a list, and a bound on its numbers. Definitions: nothing is assumed.
+-- A choice by a test, division rounded up, the sum of a list, a bound on its numbers, and a list that is padded. Definitions: nothing is assumed.
 use Prim.Native.Nat.{ℕ, _+_, _-_, _/_, _≤_}
 use mathlib.Core.Bool.{Bool, true, false}
-use mathlib.Core.List.{List, [], _∷_}
+use mathlib.Core.List.{List, [], _∷_, _++_}
+use lib.ListN.{length, replicate}
 
 -- the first where the test passes, and else the second
 abbrev pub pick : {A : Type 0} → Bool → A → A → A
@@ -21,3 +22,7 @@ sum (v ∷ l) = v + sum l
 abbrev pub AllUpTo : ℕ → List ℕ → Type 0
 AllUpTo bound [] = Unit
 AllUpTo bound (v ∷ l) = (v ≤ bound) × AllUpTo bound l
+
+-- a list in an array of m entries: past its last, each is `none`
+unfoldable pub padTo : {A : Type 0} → ℕ → A → List A → List A
+padTo m none l = l ++ replicate (m - length l) none

@@ -1,4 +1,4 @@
--- The number and the place of each refusal, as document 01's table has them; 9 is retired. Definitions: nothing is assumed.
+-- The number and the place of each refusal, as document 01's table and document 02's requests have them; 9 is retired. Definitions: nothing is assumed.
 use Prim.Native.Nat.{ℕ}
 use Rattle.terms.specs.declared.{Refusal.Refusal, Told.Told}
 
@@ -17,7 +17,7 @@ tells Refusal.ToleranceOutOfRange = row 6 0
 tells Refusal.ToleranceSpent = row 7 0
 tells Refusal.NoDraws = row 8 0
 tells Refusal.IntervalTooLarge = row 10 0
-tells Refusal.StartOutOfRange = row 11 0
+tells (Refusal.StartOutOfRange stratum) = row 11 stratum
 tells (Refusal.NoWordPasses words) = row 12 words
 tells Refusal.LengthsDiffer = row 13 0
 tells (Refusal.ErrorAboveValue line) = row 14 line
@@ -26,6 +26,9 @@ tells Refusal.TooManyErrors = row 16 0
 tells (Refusal.FileBreaksRule byte) = row 17 byte
 tells (Refusal.RoomTooShort needed) = row 18 needed
 tells Refusal.NoLegalFile = row 19 0
+tells Refusal.StrataOutOfRange = row 22 0
+tells Refusal.TooFewDraws = row 23 0
+tells Refusal.CountsDoNotAdd = row 30 0
 
 abbrev pub number : Refusal → ℕ
 number why = tells why .number

@@ -14,6 +14,8 @@ pub const MOST_INTERVAL: u64 = 1_000_000_000_000_000;
 
 pub const MOST_ERRORS: usize = 63;
 
+pub const MOST_STRATA: usize = 32;
+
 // The place of a monetary unit: it counts cents.
 pub struct Cent(pub u64);
 
@@ -31,7 +33,7 @@ pub enum Refusal {
     ToleranceSpent,
     NoDraws,
     IntervalTooLarge,
-    StartOutOfRange,
+    StartOutOfRange(u64),
     NoWordPasses(u64),
     LengthsDiffer,
     ErrorAboveValue(u64),
@@ -40,9 +42,12 @@ pub enum Refusal {
     FileBreaksRule(u64),
     RoomTooShort(u64),
     NoLegalFile,
+    StrataOutOfRange,
+    TooFewDraws,
+    CountsDoNotAdd,
 }
 
-// What a refusal tells: its number in document 01's table, and the place that it names: a line, a byte, a count that is needed, or 0.
+// What a refusal tells: its number in the documents' table, and the place that it names: a line, a byte, a count that is needed, a stratum, or 0.
 pub struct Told {
     pub number: u64,
     pub place: u64,
@@ -69,7 +74,7 @@ pub fn tell(refusal: Refusal) -> Told
         Refusal::ToleranceSpent => row(7, 0),
         Refusal::NoDraws => row(8, 0),
         Refusal::IntervalTooLarge => row(10, 0),
-        Refusal::StartOutOfRange => row(11, 0),
+        Refusal::StartOutOfRange(stratum) => row(11, stratum),
         Refusal::NoWordPasses(words) => row(12, words),
         Refusal::LengthsDiffer => row(13, 0),
         Refusal::ErrorAboveValue(line) => row(14, line),
@@ -78,6 +83,9 @@ pub fn tell(refusal: Refusal) -> Told
         Refusal::FileBreaksRule(byte) => row(17, byte),
         Refusal::RoomTooShort(needed) => row(18, needed),
         Refusal::NoLegalFile => row(19, 0),
+        Refusal::StrataOutOfRange => row(22, 0),
+        Refusal::TooFewDraws => row(23, 0),
+        Refusal::CountsDoNotAdd => row(30, 0),
     }
 }
 

@@ -1,5 +1,6 @@
 // Runs every operation on the cases of standard input and writes a line for each: the answer, and a digest of every lent list.
 // The form of the cases is told in docs/VECTORS.md. One case is held at a time.
+mod by_strata; // by_strata.rt: cases by strata
 mod projected; // projected.rt: cases of the projected lines
 mod reads; // reads.rt: cases of a read
 mod steps; // steps.rt: cases of the other operations
@@ -40,6 +41,7 @@ fn run(
     match feed::input::byte_at(case, 0) {
         7 => reads::run(number, case, room),
         9 => projected::run(number, case, numbers, errors, amounts),
+        10..=12 => by_strata::run(number, case, numbers, errors, room),
         _ => steps::run(number, case, numbers, errors, room),
     }
 }

@@ -1,5 +1,6 @@
--- `split::start_in` meets its contract: the tests that led to a `return` say where the start stands to the interval. Assumes nothing.
-use Rattle.split.proofs.Start.{start-below, start-none, start-outside}
+-- `split::start_in` meets its contract: whether the start fits decides. Assumes nothing.
+use borrow.Author.Needs.{needs}
+use Rattle.split.proofs.Start.{start-inside, start-outside}
 use Rattle.split.proofs.start_in.Statement.{statement}
 use Rattle.split.proofs.start_in.Tie as tie
 
@@ -7,6 +8,6 @@ pub start-in-spec : {M : Type 1} → statement M
 start-in-spec =
     tie.close
     (tie.spec
-    (λ c. search start-below)
-    (λ c. search start-outside)
-    (λ c. search start-none))
+    (λ c κs. search needs)
+    (λ c. search start-inside)
+    (λ c. search start-outside))

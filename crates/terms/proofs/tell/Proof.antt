@@ -35,4 +35,7 @@ tell-spec =
     (λ c. search arm) (λ c. search arm) (λ c. search arm)
     (λ c. search arm) (λ c. search arm) (λ c. search arm)
     (λ c. search arm) (λ c. search arm) (λ c. search arm)
+    (λ c. search arm) (λ c. search arm) (λ c. search arm)
+    (λ c. search arm) (λ c. search arm) (λ c. search arm)
+    (λ c. search arm) (λ c. search arm) (λ c. search arm)
     (λ c. search arm) (λ c. search arm) (λ c. search arm))

@@ -1,0 +1,3 @@
+pub mod Strata
+pub mod Starts
+pub mod Steps

@@ -6,3 +6,4 @@ pub mod Strata
 pub mod Worked
 pub mod Practice
 pub mod MoreError
+pub mod MoreErrorStrata

@@ -41,7 +41,7 @@ use Rattle.judge.proofs.Verdicts.{verdict-placed}
 use Rattle.demands.specs.MoreError.{overAt, OneChanged, OneRaised, NoneLowered, CanAnswer, judged, projectedError, NoBetter, OneStep, HigherLevel, MoreError}
 
 -- one finding raised lowers none
-none-lowered : (line : ℕ) (before now : List ℤ) → OneRaised line before now → NoneLowered before now
+pub none-lowered : (line : ℕ) (before now : List ℤ) → OneRaised line before now → NoneLowered before now
 none-lowered line before now one other = go (eqb other line) refl
   where
     go : (b : Bool) → eqb other line ≡ b → overAt before other ≤ overAt now other
@@ -49,7 +49,7 @@ none-lowered line before now one other = go (eqb other line) refl
     go false apart = rw (one .others other (eqb-false other line apart)) (le-refl _)
 
 -- the same, of the overstated parts
-parts-less : (before now : List ℤ) → NoneLowered before now → (line : ℕ) → getD (parts Overstated before) line 0 ≤ getD (parts Overstated now) line 0
+pub parts-less : (before now : List ℤ) → NoneLowered before now → (line : ℕ) → getD (parts Overstated before) line 0 ≤ getD (parts Overstated now) line 0
 parts-less before now less line = omega (arith, less line, parts-at Overstated before line, parts-at Overstated now line)
 
 -- and where errors agree, each part of them does

@@ -3,3 +3,4 @@ pub mod Demand3
 pub mod Strata
 pub mod Practice
 pub mod MoreError
+pub mod MoreErrorStrata

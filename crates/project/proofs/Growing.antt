@@ -26,7 +26,7 @@ use Rattle.project.specs.declared.State.{State}
 use Rattle.project.specs.declared.Line.{Line}
 use Rattle.project.specs.declared.Projection.{Projection}
 use Rattle.project.specs.Lines.{amount, stateBy, linesOf, fullPart, sampledPart, countPart, total, amountBefore, amountsOf}
-use Rattle.project.specs.Project.{linesWith, projectionAt, projectedBy, projectOf}
+use Rattle.project.specs.Project.{linesWith, bothKinds, projectionAt, projectedBy, projectOf}
 use Rattle.project.specs.Gather.{lineAt, linesWalk}
 use Rattle.project.proofs.Lines.{lines-walked}
 use Rattle.project.proofs.Amounts.{amount-is}
@@ -91,6 +91,26 @@ pub lines-up : (J start : ℕ) (ledger es fs : List ℕ) → ((i : ℕ) → getD
 lines-up J start ledger es fs h =
     subst₂ LinesUp (sym (lines-walked J start ledger es)) (sym (lines-walked J start ledger fs)) (walk-up J start ledger es fs h)
 
+-- neither sum of the overstatements is lower, nor m
+pub record OverUp (p q : Projection) : Type 0 where
+  pub full : p .full ≤ q .full
+  pub sampled : p .sampled ≤ q .sampled
+  pub m : p .m ≤ q .m
+
+-- at an interval and a start
+module _ (J start : ℕ) (ledger : List ℕ) (es fs : List ℤ) (p q : Projection) (less : (i : ℕ) → getD (parts Overstated es) i 0 ≤ getD (parts Overstated fs) i 0) where
+  answers-up : p ≡ bothKinds J start ledger es → q ≡ bothKinds J start ledger fs → OverUp p q
+  answers-up own other =
+      let up = lines-up J start ledger (parts Overstated es) (parts Overstated fs) less in
+      record {
+        full = omega (arith, up .full, ap (λ (r : Projection). r .full) own, ap (λ (r : Projection). r .full) other);
+        sampled = omega (arith, up .sampled, ap (λ (r : Projection). r .sampled) own, ap (λ (r : Projection). r .sampled) other);
+        m = omega (arith, up .m, ap (λ (r : Projection). r .m) own, ap (λ (r : Projection). r .m) other);
+      }
+
+  pub projection-up : (item : ℕ) → start ≤ J → projectionAt item J start ledger es ≡ accepted p → projectionAt item J start ledger fs ≡ accepted q → OverUp p q
+  projection-up item early e f = answers-up (projected-facts item J start ledger es p early e .answer) (projected-facts item J start ledger fs q early f .answer)
+
 -- two lists of errors beside one ledger, the second nowhere overstated less
 module _ (ledger : List ℕ) (n start : ℕ) (es fs : List ℤ) (less : (i : ℕ) → getD (parts Overstated es) i 0 ≤ getD (parts Overstated fs) i 0) where
   -- the figures are the same, and the lines give no less
@@ -121,19 +141,5 @@ module _ (ledger : List ℕ) (n start : ℕ) (es fs : List ℤ) (less : (i : ℕ
         lines = lines-up J start ledger (parts Overstated es) (parts Overstated fs) less;
       }
 
-  -- neither sum of the overstatements is lower, nor m
-  pub record OverUp (p q : Projection) : Type 0 where
-    pub full : p .full ≤ q .full
-    pub sampled : p .sampled ≤ q .sampled
-    pub m : p .m ≤ q .m
-
   pub over-up : (p q : Projection) → projectOf ledger n start es ≡ accepted p → projectOf ledger n start fs ≡ accepted q → OverUp p q
-  over-up p q e f =
-      let b = both-projected p q e f in
-      let own = b .first .answer in
-      let other = b .second .answer in
-      record {
-        full = omega (arith, b .lines .full, ap (λ (r : Projection). r .full) own, ap (λ (r : Projection). r .full) other);
-        sampled = omega (arith, b .lines .sampled, ap (λ (r : Projection). r .sampled) own, ap (λ (r : Projection). r .sampled) other);
-        m = omega (arith, b .lines .m, ap (λ (r : Projection). r .m) own, ap (λ (r : Projection). r .m) other);
-      }
+  over-up p q e f = let b = both-projected p q e f in answers-up (b .figures .interval) start ledger es fs p q less (b .first .answer) (b .second .answer)

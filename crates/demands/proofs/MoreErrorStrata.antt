@@ -3,8 +3,8 @@
 use Prim.Native.Nat.{ℕ, _+_, _≤_, _<_}
 use native.Mathlib.Nat.{le-refl}
 use native.Mathlib.Omega.{arith}
-use mathlib.Core.Path.{_≡_, sym, ap, _∙_, subst, subst₂}
-use mathlib.Core.List.{List, []}
+use mathlib.Core.Path.{_≡_, sym, _∙_, subst, subst₂}
+use mathlib.Core.List.{List}
 use mathlib.Core.Logic.{⊎-elim}
 use lib.IntN.{ℤ, pos}
 use lib.ListN.{length, getD, take, List·getD-eq-default}
@@ -14,14 +14,14 @@ use Rattle.terms.specs.Numbers.{sum}
 use Rattle.terms.proofs.Tests.{le-or-lt}
 use Rattle.signed.specs.declared.Part.the-variants.{Overstated}
 use Rattle.signed.specs.Parts.{partOf}
-use Rattle.project.proofs.Growing.{OverUp, projection-up}
+use Rattle.project.proofs.Growing.{projection-up}
 use Rattle.strata.specs.declared.Row.{Row}
 use Rattle.strata.specs.Strata.{partsOf, noRow}
 use Rattle.strata.proofs.Entries.{entry-at, entries-few, entries-both, parts-long}
 use Rattle.stratified.specs.declared.projection.ProjectionRow.{ProjectionRow}
-use Rattle.stratified.specs.Projection.{projectionRow, noProjection, projectStrataOf}
+use Rattle.stratified.specs.Projection.{noProjection, projectStrataOf}
 use Rattle.stratified.proofs.Laws.{firstOf, OwnRow, others-unseen, StrataFacts, strata-facts, over-all-up}
-use Rattle.demands.specs.MoreError.{OneChanged, OneRaised, NoneLowered}
+use Rattle.demands.specs.MoreError.{OneChanged, NoneLowered}
 use Rattle.demands.specs.Strata.{ownOf}
 use Rattle.demands.specs.MoreErrorStrata.{RowNoBetter, StrataNoBetter, LineOf, MoreErrorStrata}
 use Rattle.demands.proofs.MoreError.{none-lowered, parts-less}

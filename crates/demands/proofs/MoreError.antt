@@ -17,9 +17,8 @@ use Rattle.terms.proofs.Tests.{le-or-lt}
 use Rattle.factors.specs.declared.Level.{Level}
 use Rattle.factors.specs.Levels.{percentOf, levelOf}
 use Rattle.factors.proofs.Percents.{named-only}
-use Rattle.signed.specs.declared.Part.{Part}
 use Rattle.signed.specs.declared.Part.the-variants.{Overstated, Size}
-use Rattle.signed.specs.Parts.{partOf, parts}
+use Rattle.signed.specs.Parts.{parts}
 use Rattle.signed.proofs.Laws.{parts-at}
 use Rattle.ledger.specs.Ledger.{ledgerOf}
 use Rattle.split.specs.declared.Figures.{Figures}
@@ -28,7 +27,7 @@ use Rattle.project.specs.declared.Line.{Line}
 use Rattle.project.specs.declared.Projection.{Projection}
 use Rattle.project.specs.Lines.{amountsOf}
 use Rattle.project.specs.Project.{checkedLines, linesWith, bothKinds, projectOf}
-use Rattle.project.proofs.Changed.{AtLine, passes, too-large, not-drawn, Agree, lines-changed, m-changed}
+use Rattle.project.proofs.Changed.{AtLine, passes, too-large, not-drawn, parts-agree, lines-changed, m-changed}
 use Rattle.project.proofs.Laws.{checked-lines}
 use Rattle.project.proofs.Growing.{both-projected, over-up}
 use Rattle.precision.specs.Precision.{precisionCents, precisionOf}
@@ -51,10 +50,6 @@ none-lowered line before now one other = go (eqb other line) refl
 -- the same, of the overstated parts
 pub parts-less : (before now : List ℤ) → NoneLowered before now → (line : ℕ) → getD (parts Overstated before) line 0 ≤ getD (parts Overstated now) line 0
 parts-less before now less line = omega (arith, less line, parts-at Overstated before line, parts-at Overstated now line)
-
--- and where errors agree, each part of them does
-parts-agree : (p : Part) (line : ℕ) (before now : List ℤ) → OneChanged line before now → Agree line (parts p before) (parts p now)
-parts-agree p line before now others other apart = parts-at p before other ∙ ap (partOf p) (others other apart) ∙ sym (parts-at p now other)
 
 module _ (ledger : List ℕ) (n start : ℕ) (before now : List ℤ) (less : NoneLowered before now) where
   abbrev fewer : (line : ℕ) → getD (parts Overstated before) line 0 ≤ getD (parts Overstated now) line 0
@@ -192,7 +187,7 @@ module _ (ledger : List ℕ) (n start level te line : ℕ) (before now : List �
   can-answer =
       let c = judge-chain level ledger n start before te j e in
       let passed = lines-passed (c .level) ledger n start before te (c .figures) (c .started) j (c .at) in
-      subst (CanAnswer line) (sym (from-lines c)) (by-outcome c refl (lines-changed (interval c) start line ledger (parts Size before) (parts Size now) _ (parts-agree Size line before now others) (passed .0)))
+      subst (CanAnswer line) (sym (from-lines c)) (by-outcome c refl (lines-changed 0 (interval c) start line line ledger (parts Size before) (parts Size now) _ (parts-agree Size line before now others) (omega arith) (passed .0)))
 
 pub more-error : (ledger : List ℕ) (n start : ℕ) → MoreError ledger n start
 more-error ledger n start =

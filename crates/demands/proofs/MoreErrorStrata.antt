@@ -9,21 +9,23 @@ use mathlib.Core.Logic.{⊎-elim}
 use lib.IntN.{ℤ, pos}
 use lib.ListN.{length, getD, take, List·getD-eq-default}
 use lib.Seq.{ext-getD}
-use Rattle.terms.specs.Outcome.{accepted}
+use Rattle.terms.specs.Outcome.{Outcome, accepted, refused}
 use Rattle.terms.specs.Numbers.{sum}
 use Rattle.terms.proofs.Tests.{le-or-lt}
 use Rattle.signed.specs.declared.Part.the-variants.{Overstated}
 use Rattle.signed.specs.Parts.{partOf}
 use Rattle.project.proofs.Growing.{projection-up}
+use Rattle.project.proofs.Changed.{AtLine, passes, too-large, not-drawn}
 use Rattle.strata.specs.declared.Row.{Row}
 use Rattle.strata.specs.Strata.{partsOf, noRow}
 use Rattle.strata.proofs.Entries.{entry-at, entries-few, entries-both, parts-long}
 use Rattle.stratified.specs.declared.projection.ProjectionRow.{ProjectionRow}
 use Rattle.stratified.specs.Projection.{noProjection, projectStrataOf}
 use Rattle.stratified.proofs.Laws.{firstOf, OwnRow, others-unseen, StrataFacts, strata-facts, over-all-up}
+use Rattle.stratified.proofs.Changed.{strata-changed}
 use Rattle.demands.specs.MoreError.{OneChanged, NoneLowered}
 use Rattle.demands.specs.Strata.{ownOf}
-use Rattle.demands.specs.MoreErrorStrata.{RowNoBetter, StrataNoBetter, LineOf, MoreErrorStrata}
+use Rattle.demands.specs.MoreErrorStrata.{RowNoBetter, StrataNoBetter, LineOf, CanProject, MoreErrorStrata}
 use Rattle.demands.proofs.MoreError.{none-lowered, parts-less}
 
 -- errors of which none is lower, in a stratum
@@ -99,10 +101,17 @@ module _ (ledger counts : List ℕ) (n : ℕ) (starts : List ℕ) (before now : 
       (subst (λ (errors : List ℤ). OwnRow (0 + firstOf (partsOf counts ledger) h) (ownOf counts ledger h) (getD (first .rows) h noRow) (getD starts h 0) errors (getD q h noProjection)) (sym same)
       (second-own h inside))) (le-or-lt (length counts) h)
 
+-- one finding changed
+can-project : (line : ℕ) {o : Outcome (List ProjectionRow)} → AtLine line o → CanProject line o
+can-project line passes = CanProject.projected
+can-project line (too-large same) = subst (λ (at : ℕ). CanProject line (refused 14 at)) (sym same) CanProject.too-large
+can-project line (not-drawn same) = subst (λ (at : ℕ). CanProject line (refused 15 at)) (sym same) CanProject.not-drawn
+
 pub more-error-strata : (ledger counts : List ℕ) (n : ℕ) (starts : List ℕ) → MoreErrorStrata ledger counts n starts
 more-error-strata ledger counts n starts =
     record {
-      changed = λ line before now others p q e f. elsewhere ledger counts n starts before now p q e f line others;
+      changed = λ line before now long others p e. can-project line (strata-changed ledger counts n starts line before now p (sym long) others e);
+      elsewhere = λ line before now others p q e f. elsewhere ledger counts n starts before now p q e f line others;
       one = λ line before now raised p q e f. strata-up ledger counts n starts before now p q e f (none-lowered line before now raised);
       several = λ before now less p q e f. strata-up ledger counts n starts before now p q e f less;
     }

@@ -5,7 +5,7 @@ use mathlib.Core.Path.{_≡_}
 use mathlib.Core.List.{List}
 use lib.IntN.{ℤ}
 use lib.ListN.{length, getD, take}
-use Rattle.terms.specs.Outcome.{accepted}
+use Rattle.terms.specs.Outcome.{Outcome, accepted, refused}
 use Rattle.terms.specs.Numbers.{sum}
 use Rattle.stratified.specs.declared.projection.ProjectionRow.{ProjectionRow}
 use Rattle.stratified.specs.Projection.{noProjection, projectStrataOf, overAll}
@@ -29,10 +29,19 @@ pub record LineOf (counts : List ℕ) (h line : ℕ) : Type 0 where
   pub from : sum (take h counts) ≤ line
   pub to : line < sum (take h counts) + getD counts h 0
 
+-- what a projection by strata can answer once one finding is changed: 14 or 15 at its line are all that it can earn
+pub data CanProject (line : ℕ) : Outcome (List ProjectionRow) → Type 0 where
+  projected : {now : List ProjectionRow} → CanProject line (accepted now)
+  too-large : CanProject line (refused 14 line)
+  not-drawn : CanProject line (refused 15 line)
+
 -- with ledger, counts, n and starts fixed
 pub record MoreErrorStrata (ledger counts : List ℕ) (n : ℕ) (starts : List ℕ) : Type 0 where
-  -- one finding changed, up or down: no row moves but that of its stratum
-  pub changed : (line : ℕ) (before now : List ℤ) → OneChanged line before now → (p q : List ProjectionRow) →
+  -- one finding changed, up or down
+  pub changed : (line : ℕ) (before now : List ℤ) → length now ≡ length before → OneChanged line before now → (p : List ProjectionRow) →
+      projectStrataOf ledger counts n starts before ≡ accepted p → CanProject line (projectStrataOf ledger counts n starts now)
+  -- where both are accepted, no row moves but that of its stratum
+  pub elsewhere : (line : ℕ) (before now : List ℤ) → OneChanged line before now → (p q : List ProjectionRow) →
       projectStrataOf ledger counts n starts before ≡ accepted p → projectStrataOf ledger counts n starts now ≡ accepted q →
       (h : ℕ) → ¬ LineOf counts h line → getD p h noProjection ≡ getD q h noProjection
   -- one finding raised

@@ -6,15 +6,22 @@ use mathlib.Core.Path.{_≡_, sym, ap, _∙_, subst, subst₂}
 use mathlib.Core.Bool.{Bool, true, false}
 use mathlib.Core.List.{List, [], _∷_}
 use lib.Dec.{ltb}
+use lib.IntN.{ℤ, pos}
 use lib.ListN.{getD, drop}
 use lib.Seq.{getD-drop}
 use Rattle.terms.specs.Outcome.{Outcome, accepted, refused, after}
+use Rattle.terms.proofs.Outcomes.{after-accepted}
 use Rattle.terms.proofs.Tests.{by-test}
+use Rattle.signed.specs.declared.Part.{Part}
+use Rattle.signed.specs.declared.Part.the-variants.{Size}
+use Rattle.signed.specs.Parts.{partOf, parts}
+use Rattle.signed.proofs.Laws.{parts-at}
 use Rattle.draw.specs.Row.{full}
 use Rattle.walk.specs.Walk.{aheadAfter}
 use Rattle.project.specs.declared.Line.{Line}
+use Rattle.project.specs.declared.Projection.{Projection}
 use Rattle.project.specs.Lines.{amount, stateBy, linesOf, countPart, total}
-use Rattle.project.specs.Project.{misplaced, checkedLine, checkedFrom, checkedLines}
+use Rattle.project.specs.Project.{misplaced, checkedLine, checkedFrom, checkedLines, bothKinds, projectionAt}
 use Rattle.project.specs.Gather.{lineAt, linesWalk}
 use Rattle.project.proofs.Lines.{lines-walked}
 use Rattle.project.proofs.Checking.{checked-rest}
@@ -27,7 +34,7 @@ pub data AtLine {A : Type 0} (place : ℕ) : Outcome A → Type 0 where
   too-large : {at : ℕ} → at ≡ place → AtLine place (refused 14 at)
   not-drawn : {at : ℕ} → at ≡ place → AtLine place (refused 15 at)
 
-at-after : {A B : Type 0} (place : ℕ) (next : A → Outcome B) {o : Outcome A} → AtLine place o → ((a : A) → AtLine place (next a)) → AtLine place (after next o)
+pub at-after : {A B : Type 0} (place : ℕ) (next : A → Outcome B) {o : Outcome A} → AtLine place o → ((a : A) → AtLine place (next a)) → AtLine place (after next o)
 at-after place next passes f = f _
 at-after place next (too-large e) f = too-large e
 at-after place next (not-drawn e) f = not-drawn e
@@ -37,14 +44,18 @@ unfolding checkedLine
 line-at item place l e =
     by-test (AtLine place) (ltb (l .value) (l .error)) (λ p. too-large e) (λ p. by-test (AtLine place) (misplaced (l .state) (l .error)) (λ q. not-drawn e) (λ q. passes))
 
--- the errors agree but at one line
-abbrev pub Agree : ℕ → List ℕ → List ℕ → Type 0
-Agree line es fs = (other : ℕ) → ¬ (other ≡ line) → getD es other 0 ≡ getD fs other 0
+-- two lists agree but at one line
+abbrev pub Agree : {A : Type 0} → A → ℕ → List A → List A → Type 0
+Agree none line es fs = (other : ℕ) → ¬ (other ≡ line) → getD es other none ≡ getD fs other none
 
-later-agree : (line : ℕ) (es fs : List ℕ) → Agree (suc line) es fs → Agree line (drop 1 es) (drop 1 fs)
+-- and each part of them does where they are errors
+pub parts-agree : (p : Part) (line : ℕ) (es fs : List ℤ) → Agree (pos 0) line es fs → Agree 0 line (parts p es) (parts p fs)
+parts-agree p line es fs agree other apart = parts-at p es other ∙ ap (partOf p) (agree other apart) ∙ sym (parts-at p fs other)
+
+later-agree : (line : ℕ) (es fs : List ℕ) → Agree 0 (suc line) es fs → Agree 0 line (drop 1 es) (drop 1 fs)
 later-agree line es fs agree other apart = getD-drop 1 es other 0 ∙ agree (1 + other) (λ e. apart (omega arith)) ∙ sym (getD-drop 1 fs other 0)
 
-walk-changed : (J next item line place : ℕ) (vs es fs : List ℕ) (good : List Line) → Agree line es fs → item + line ≡ place → checkedFrom item (linesWalk J next vs es) ≡ accepted good →
+walk-changed : (J next item line place : ℕ) (vs es fs : List ℕ) (good : List Line) → Agree 0 line es fs → item + line ≡ place → checkedFrom item (linesWalk J next vs es) ≡ accepted good →
     AtLine place (checkedFrom item (linesWalk J next vs fs))
 unfolding linesWalk checkedFrom
 walk-changed J next item line place [] es fs good agree e passed = passes
@@ -63,12 +74,20 @@ walk-changed J next item (suc line) place (v ∷ vs) es fs good agree e passed =
     (λ k. at-after place _ (walk-changed J (aheadAfter J next v) (suc item) line place vs (drop 1 es) (drop 1 fs) _ (later-agree line es fs agree) (omega (arith, e)) (c .rest)) (λ rest. passes))
 
 -- all lines
-pub lines-changed : (J start line : ℕ) (ledger es fs : List ℕ) (good : List Line) → Agree line es fs → checkedLines 0 J start ledger es ≡ accepted good →
-    AtLine line (checkedLines 0 J start ledger fs)
+pub lines-changed : (item J start line place : ℕ) (ledger es fs : List ℕ) (good : List Line) → Agree 0 line es fs → item + line ≡ place → checkedLines item J start ledger es ≡ accepted good →
+    AtLine place (checkedLines item J start ledger fs)
 unfolding checkedLines
-lines-changed J start line ledger es fs good agree passed =
-    subst (λ (ls : List Line). AtLine line (checkedFrom 0 ls)) (sym (lines-walked J start ledger fs))
-    (walk-changed J start 0 line line ledger es fs good agree (omega arith) (sym (ap (checkedFrom 0) (lines-walked J start ledger es)) ∙ passed))
+lines-changed item J start line place ledger es fs good agree e passed =
+    subst (λ (ls : List Line). AtLine place (checkedFrom item ls)) (sym (lines-walked J start ledger fs))
+    (walk-changed J start item line place ledger es fs good agree e (sym (ap (checkedFrom item) (lines-walked J start ledger es)) ∙ passed))
+
+-- and the projection
+pub projection-changed : (item J start line place : ℕ) (ledger : List ℕ) (es fs : List ℤ) (p : Projection) → Agree (pos 0) line es fs → item + line ≡ place →
+    projectionAt item J start ledger es ≡ accepted p → AtLine place (projectionAt item J start ledger fs)
+unfolding projectionAt
+projection-changed item J start line place ledger es fs p agree e projected =
+    let a = after-accepted (λ lines. accepted (bothKinds J start ledger es)) (checkedLines item J start ledger (parts Size es)) p projected in
+    at-after place _ (lines-changed item J start line place ledger (parts Size es) (parts Size fs) (a .0) (parts-agree Size line es fs agree) e (a .1)) (λ lines. passes)
 
 -- one line counts for one at most
 state-one : (f t : Bool) (a e : ℕ) → countPart (stateBy f t a) e ≤ 1
@@ -76,7 +95,7 @@ state-one true t a e = zero-le
 state-one false true a e = by-test (λ n. n ≤ 1) (ltb 0 e) (λ _. le-refl 1) (λ _. zero-le)
 state-one false false a e = zero-le
 
-walk-one : (J next line : ℕ) (vs es fs : List ℕ) → Agree line es fs → total countPart (linesWalk J next vs fs) ≤ total countPart (linesWalk J next vs es) + 1
+walk-one : (J next line : ℕ) (vs es fs : List ℕ) → Agree 0 line es fs → total countPart (linesWalk J next vs fs) ≤ total countPart (linesWalk J next vs es) + 1
 unfolding linesWalk total
 walk-one J next line [] es fs agree = zero-le
 walk-one J next zero (v ∷ vs) es fs agree =
@@ -90,6 +109,6 @@ walk-one J next (suc line) (v ∷ vs) es fs agree =
       walk-one J (aheadAfter J next v) line vs (drop 1 es) (drop 1 fs) (later-agree line es fs agree),
     )
 
-pub m-changed : (J start line : ℕ) (ledger es fs : List ℕ) → Agree line es fs → total countPart (linesOf J start ledger fs) ≤ total countPart (linesOf J start ledger es) + 1
+pub m-changed : (J start line : ℕ) (ledger es fs : List ℕ) → Agree 0 line es fs → total countPart (linesOf J start ledger fs) ≤ total countPart (linesOf J start ledger es) + 1
 m-changed J start line ledger es fs agree =
     subst₂ (λ (ks ls : List Line). total countPart ks ≤ total countPart ls + 1) (sym (lines-walked J start ledger fs)) (sym (lines-walked J start ledger es)) (walk-one J start line ledger es fs agree)

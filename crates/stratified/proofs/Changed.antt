@@ -19,7 +19,8 @@ use Rattle.strata.specs.Strata.{partsOf, noRow}
 use Rattle.strata.specs.Starts.{startedOf}
 use Rattle.strata.proofs.Starting.{started-facts}
 use Rattle.stratified.specs.declared.projection.ProjectionRow.{ProjectionRow}
-use Rattle.stratified.specs.Projection.{projectionRow, projectedFrom, projectStrataOf}
+use Rattle.stratified.specs.Projection.{projectedFrom, projectStrataOf}
+use Rattle.stratified.proofs.Laws.{first-row}
 
 -- errors that agree but at a line, cut in two: the first part agrees but at that line, and where it is not in a part, that part is the same
 module _ (line count : ℕ) (es fs : List ℤ) (agree : Agree (pos 0) line es fs) where
@@ -53,18 +54,17 @@ rows-changed at line place (count ∷ counts) ledger rows starts es fs good enou
     let part = take count ledger in
     let own : List ℤ → Outcome Projection = λ errors. projectionAt at (getD rows 0 noRow .figures .interval) (getD starts 0 0) part errors in
     let later : List ℤ → Outcome (List ProjectionRow) = λ errors. projectedFrom (at + length part) (partsOf counts (drop count ledger)) (drop 1 rows) (drop 1 starts) (partsOf counts errors) in
-    let a = after-accepted (λ sums. after (λ more. accepted (projectionRow (getD rows 0 noRow) sums ∷ more)) (later (drop count es))) (own (take count es)) good passed in
-    let b = after-accepted (λ more. accepted (projectionRow (getD rows 0 noRow) (a .0) ∷ more)) (later (drop count es)) good (a .2) in
+    let f = first-row at part (partsOf counts (drop count ledger)) rows starts (take count es ∷ partsOf counts (drop count es)) good passed in
     ⊎-elim
     (λ (past : count ≤ line).
-    at-after place _ (subst (AtLine place) (sym (ap own (sym (take-same line count es fs agree long past)) ∙ a .1)) passes)
+    at-after place _ (subst (AtLine place) (sym (ap own (sym (take-same line count es fs agree long past)) ∙ f .own)) passes)
     (λ sums. at-after place _
-    (rows-changed (at + length part) (line - count) place counts (drop count ledger) (drop 1 rows) (drop 1 starts) (drop count es) (drop count fs) (b .0)
-    (omega (arith, length-drop count ledger)) (omega (arith, length-drop count es, length-drop count fs)) (drop-agree line count es fs agree past) (omega (arith, length-take count ledger)) (b .1))
+    (rows-changed (at + length part) (line - count) place counts (drop count ledger) (drop 1 rows) (drop 1 starts) (drop count es) (drop count fs) (f .more)
+    (omega (arith, length-drop count ledger)) (omega (arith, length-drop count es, length-drop count fs)) (drop-agree line count es fs agree past) (omega (arith, length-take count ledger)) (f .rest))
     (λ more. passes)))
     (λ (here : line < count).
-    at-after place _ (projection-changed at _ _ line place part (take count es) (take count fs) (a .0) (take-agree line count es fs agree) e (a .1))
-    (λ sums. at-after place _ (subst (AtLine place) (sym (ap later (sym (drop-same line count es fs agree long here)) ∙ b .1)) passes) (λ more. passes)))
+    at-after place _ (projection-changed at _ _ line place part (take count es) (take count fs) (f .sums) (take-agree line count es fs agree) e (f .own))
+    (λ sums. at-after place _ (subst (AtLine place) (sym (ap later (sym (drop-same line count es fs agree long here)) ∙ f .rest)) passes) (λ more. passes)))
     (le-or-lt count line)
 
 pub strata-changed : (ledger counts : List ℕ) (n : ℕ) (starts : List ℕ) (line : ℕ) (es fs : List ℤ) (good : List ProjectionRow) → length es ≡ length fs → Agree (pos 0) line es fs →

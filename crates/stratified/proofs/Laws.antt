@@ -53,6 +53,24 @@ project-strata-gives ledger counts n starts errors =
     (gives-among startedNumbers projectedNumbers tt (startedOf ledger counts n starts (length errors)) (started-gives ledger counts n starts (length errors)))
     (λ rows. rows-give 0 (partsOf counts ledger) rows starts (partsOf counts errors))
 
+-- an accepted walk from a stratum on: its own projection, and the rows of the later ones
+pub record FirstRow (at : ℕ) (part : List ℕ) (parts : List (List ℕ)) (rows : List Row) (starts : List ℕ) (errors : List (List ℤ)) (projected : List ProjectionRow) : Type 0 where
+  pub sums : Projection
+  pub own : projectionAt at (getD rows 0 noRow .figures .interval) (getD starts 0 0) part (getD errors 0 []) ≡ accepted sums
+  pub more : List ProjectionRow
+  pub rest : projectedFrom (at + length part) parts (drop 1 rows) (drop 1 starts) (drop 1 errors) ≡ accepted more
+  pub whole : projectionRow (getD rows 0 noRow) sums ∷ more ≡ projected
+
+pub first-row : (at : ℕ) (part : List ℕ) (parts : List (List ℕ)) (rows : List Row) (starts : List ℕ) (errors : List (List ℤ)) (projected : List ProjectionRow) →
+    projectedFrom at (part ∷ parts) rows starts errors ≡ accepted projected → FirstRow at part parts rows starts errors projected
+unfolding projectedFrom
+first-row at part parts rows starts errors projected e =
+    let others = projectedFrom (at + length part) parts (drop 1 rows) (drop 1 starts) (drop 1 errors) in
+    let a = after-accepted (λ (sums : Projection). after (λ more. accepted (projectionRow (getD rows 0 noRow) sums ∷ more)) others)
+    (projectionAt at (getD rows 0 noRow .figures .interval) (getD starts 0 0) part (getD errors 0 [])) projected e in
+    let b = after-accepted (λ (more : List ProjectionRow). accepted (projectionRow (getD rows 0 noRow) (a .0) ∷ more)) others projected (a .2) in
+    record { sums = a .0; own = a .1; more = b .0; rest = b .1; whole = let w = b .2 in cc }
+
 -- the number of a stratum's first line in the whole ledger
 abbrev pub firstOf : List (List ℕ) → ℕ → ℕ
 firstOf [] h = 0
@@ -68,15 +86,10 @@ pub record OwnRow (at : ℕ) (part : List ℕ) (row : Row) (start : ℕ) (errors
 pub own-rows : (at : ℕ) (parts : List (List ℕ)) (rows : List Row) (starts : List ℕ) (errors : List (List ℤ)) (projected : List ProjectionRow) →
     projectedFrom at parts rows starts errors ≡ accepted projected → (h : ℕ) → h < length parts →
     OwnRow (at + firstOf parts h) (getD parts h []) (getD rows h noRow) (getD starts h 0) (getD errors h []) (getD projected h noProjection)
-unfolding projectedFrom
 own-rows at [] rows starts errors projected e h inside = absurd (omega arith)
 own-rows at (part ∷ parts) rows starts errors projected e h inside =
-    let others = projectedFrom (at + length part) parts (drop 1 rows) (drop 1 starts) (drop 1 errors) in
-    let a = after-accepted (λ (sums : Projection). after (λ more. accepted (projectionRow (getD rows 0 noRow) sums ∷ more)) others)
-    (projectionAt at (getD rows 0 noRow .figures .interval) (getD starts 0 0) part (getD errors 0 [])) projected e in
-    let b = after-accepted (λ (more : List ProjectionRow). accepted (projectionRow (getD rows 0 noRow) (a .0) ∷ more)) others projected (a .2) in
-    let whole : projectionRow (getD rows 0 noRow) (a .0) ∷ b .0 ≡ projected = let w = b .2 in cc in
-    go h inside (a .0) (a .1) (b .0) whole (own-rows (at + length part) parts (drop 1 rows) (drop 1 starts) (drop 1 errors) (b .0) (b .1))
+    let f = first-row at part parts rows starts errors projected e in
+    go h inside (f .sums) (f .own) (f .more) (f .whole) (own-rows (at + length part) parts (drop 1 rows) (drop 1 starts) (drop 1 errors) (f .more) (f .rest))
   where
     go : (h : ℕ) → h < suc (length parts) → (sums : Projection) → projectionAt at (getD rows 0 noRow .figures .interval) (getD starts 0 0) part (getD errors 0 []) ≡ accepted sums →
         (more : List ProjectionRow) → projectionRow (getD rows 0 noRow) sums ∷ more ≡ projected →
@@ -110,12 +123,8 @@ rows-long : (at : ℕ) (parts : List (List ℕ)) (rows : List Row) (starts : Lis
 unfolding projectedFrom
 rows-long at [] rows starts errors projected e = let none : [] ≡ projected = cc in ap length (sym none)
 rows-long at (part ∷ parts) rows starts errors projected e =
-    let others = projectedFrom (at + length part) parts (drop 1 rows) (drop 1 starts) (drop 1 errors) in
-    let a = after-accepted (λ (sums : Projection). after (λ more. accepted (projectionRow (getD rows 0 noRow) sums ∷ more)) others)
-    (projectionAt at (getD rows 0 noRow .figures .interval) (getD starts 0 0) part (getD errors 0 [])) projected e in
-    let b = after-accepted (λ (more : List ProjectionRow). accepted (projectionRow (getD rows 0 noRow) (a .0) ∷ more)) others projected (a .2) in
-    let whole : projectionRow (getD rows 0 noRow) (a .0) ∷ b .0 ≡ projected = let w = b .2 in cc in
-    ap length (sym whole) ∙ ap suc (rows-long (at + length part) parts (drop 1 rows) (drop 1 starts) (drop 1 errors) (b .0) (b .1))
+    let f = first-row at part parts rows starts errors projected e in
+    ap length (sym (f .whole)) ∙ ap suc (rows-long (at + length part) parts (drop 1 rows) (drop 1 starts) (drop 1 errors) (f .more) (f .rest))
 
 -- what is known of an accepted projection by strata
 pub record StrataFacts (ledger counts : List ℕ) (n : ℕ) (starts : List ℕ) (errors : List ℤ) (projected : List ProjectionRow) : Type 0 where

@@ -3,7 +3,7 @@
 use Prim.Native.Nat.{ℕ, _+_, _≤_, _<_}
 use native.Mathlib.Nat.{le-refl}
 use native.Mathlib.Omega.{arith}
-use mathlib.Core.Path.{_≡_, sym, _∙_, subst, subst₂}
+use mathlib.Core.Path.{_≡_, refl, sym, _∙_, subst, subst₂}
 use mathlib.Core.List.{List}
 use mathlib.Core.Logic.{⊎-elim}
 use lib.IntN.{ℤ, pos}
@@ -47,10 +47,10 @@ row-up : {at start : ℕ} {part : List ℕ} {row : Row} {es fs : List ℤ} {befo
     OwnRow at part row start es before → OwnRow at part row start fs now → RowNoBetter before now
 row-up {at} {start} {part} {row} {es} {fs} early less a b =
     let up = projection-up (row .figures .interval) start part es fs (a .sums) (b .sums) (parts-less es fs less) at early (a .own) (b .own) in
-    subst₂ RowNoBetter (sym (a .is)) (sym (b .is)) (record { draws = λ i. row .draws; interval = λ i. row .figures .interval; full = up .full; sampled = up .sampled })
+    subst₂ RowNoBetter (sym (a .is)) (sym (b .is)) (record { draws = refl; interval = refl; full = up .full; sampled = up .sampled })
 
 row-same : (row : ProjectionRow) → RowNoBetter row row
-row-same row = record { draws = λ i. row .draws; interval = λ i. row .interval; full = le-refl (row .full); sampled = le-refl (row .sampled) }
+row-same row = record { draws = refl; interval = refl; full = le-refl (row .full); sampled = le-refl (row .sampled) }
 
 -- two projections beside one ledger
 module _ (ledger counts : List ℕ) (n : ℕ) (starts : List ℕ) (before now : List ℤ) (p q : List ProjectionRow) (e : projectStrataOf ledger counts n starts before ≡ accepted p)

@@ -196,8 +196,9 @@ no-freedom =
       read-then-write = read-then-written-once;
       sheet = λ _ _ _ _ _ _ p q. printed-once p q;
       sheet-in = sheets-once;
-      parse = λ _ _ _ _ _ _ _ _ p q. let same = parsed-once p q in (same .answers, λ i. (same .words i, same .values i, same .errors i));
-      print-fault = λ _ _ _ _ _ _ p q. printed-once p q;
+      parse = λ _ _ _ _ _ _ _ _ _ p q. let same = parsed-once p q in (same .answers, λ i. (same .words i, same .values i, same .errors i));
+      print-fault = λ _ _ _ _ _ _ _ p q. printed-once p q;
+      divide = λ _ _ _ p q. p ∙ sym q;
       mus-size = λ percent total te ae. sees (size-once percent total te ae);
       mus-split = λ ledger n marks. sees-with (split-once ledger n marks);
       mus-start = λ J words. sees (start-once J words);

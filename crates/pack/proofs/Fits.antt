@@ -14,6 +14,7 @@ use Rattle.workfile.specs.declared.WriteAnswer.the-variants.{Written}
 use Rattle.workfile.specs.Content.{Content}
 use Rattle.workfile.specs.Promises.{writeSays, writeOf, contentWith, over, counted, WritePromise}
 use Rattle.workfile.specs.declared.Contents.{Contents}
+use Rattle.entry.specs.declared.Notation.{Notation}
 use Rattle.notation.specs.declared.ParseAnswer.{ParseAnswer}
 use Rattle.notation.specs.declared.ParseAnswer.the-variants.{Parsed}
 use Rattle.notation.specs.Contents.{says}
@@ -32,9 +33,9 @@ written-fits {plan} {words} {values} {file} {file′} {errors} {r} {l} p q =
     omega (arith, over-long (found .0) file file′ (p .file-left ∙ ap (left (λ bs. over bs file) file) (found .1)))
 
 -- the parts of the parser's buffers that are handed on
-module _ {text w v w′ v′ : List ℕ} {e e′ : List ℤ} {r : ParseAnswer} (p : ParsePromise text w v e r w′ v′ e′) {k : Contents} (q : r ≡ Parsed k) where
-  said : (c : Content) × (parseOf text (length w) (length v) (length e) ≡ says c) × (counted c ≡ k)
-  said = was-said (parseOf text (length w) (length v) (length e)) (sym (p .answer) ∙ ap parseSays q)
+module _ {by : Notation} {text w v w′ v′ : List ℕ} {e e′ : List ℤ} {r : ParseAnswer} (p : ParsePromise by text w v e r w′ v′ e′) {k : Contents} (q : r ≡ Parsed k) where
+  said : (c : Content) × (parseOf by text (length w) (length v) (length e) ≡ says c) × (counted c ≡ k)
+  said = was-said (parseOf by text (length w) (length v) (length e)) (sym (p .answer) ∙ ap parseSays q)
 
   pub words-fit : k .words ≤ length w′
   words-fit =

@@ -1,5 +1,6 @@
 // Makes a working file: reads a text in the notation from standard input and writes its file to standard output; or writes
 // what is wrong with the text to standard error, one line, and nothing to standard output.
+use entry::Notation;
 use notation::Fault;
 use notation::ParseAnswer;
 use workfile::Contents;
@@ -15,7 +16,7 @@ fn say(words: &[u8]) {
 
 fn put_fault(fault: Fault) {
     let mut page = [0u8; 80];
-    let length = faults::print_fault(fault, &mut page);
+    let length = faults::print_fault(fault, Notation::Desk, &mut page);
     say(&page[..length]);
 }
 
@@ -46,7 +47,7 @@ fn pack(text: &[u8]) {
     let mut words = [0u64; workfile::MOST_WORDS];
     let mut values = [0u64; workfile::MOST_FILE_LINES];
     let mut errors = [0i64; workfile::MOST_FILE_LINES];
-    match notation::parse(text, &mut words, &mut values, &mut errors) {
+    match notation::parse(text, Notation::Desk, &mut words, &mut values, &mut errors) {
         ParseAnswer::Faulty(fault) => put_fault(fault),
         ParseAnswer::Parsed(contents) => {
             let count = contents.words as usize;

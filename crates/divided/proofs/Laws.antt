@@ -2,9 +2,9 @@
 use mathlib.Core.Path.{_≡_, refl, ap}
 use mathlib.Core.Bool.{Bool, true, false}
 use mathlib.Core.List.{List, [], _∷_}
-use Prim.Native.Nat.{ℕ, zero, suc, _+_, _≤_}
+use Prim.Native.Nat.{ℕ, suc, _+_, _≤_}
 use native.Mathlib.Omega.{arith}
-use lib.ListN.{length, replicate}
+use lib.ListN.{length, take}
 use Rattle.terms.specs.Numbers.{sum}
 use Rattle.workfile.specs.Content.{Content}
 use Rattle.workfile.specs.declared.FileRecord.the-variants.{Word, Value, ErrorOf, End, Nothing}
@@ -90,14 +90,15 @@ counts-add text c counts e d =
     let same : countsOf (partsOf text) ≡ counts = says-counts (partsOf text) 1 false false (countsOf (partsOf text)) counts d in
     omega (arith, ap sum same, none-early (partsOf text) 1 false (countsOf (partsOf text)) counts d, in-strata (partsOf text), all-told (textLines text), lines-counted Programmes text c e)
 
-sum-none : (room : ℕ) → sum (replicate room 0) ≡ 0
-sum-none zero = refl
-sum-none (suc room) = omega (arith, sum-none room)
-
 -- what is stored is all of them where there is room
-pub stored-adds : (room : ℕ) (counts : List ℕ) → length counts ≤ room → sum (laid (replicate room 0) counts) ≡ sum counts
+pub stored-front : (room counts : List ℕ) → length counts ≤ length room → take (length counts) (laid room counts) ≡ counts
 unfolding laid
-stored-adds zero [] h = refl
-stored-adds zero (n ∷ counts) h = absurd (omega arith)
-stored-adds (suc room) [] h = omega (arith, sum-none room)
-stored-adds (suc room) (n ∷ counts) h = ap (λ (m : ℕ). n + m) (stored-adds room counts (omega arith))
+stored-front room [] h = refl
+stored-front [] (n ∷ counts) h = absurd (omega arith)
+stored-front (z ∷ room) (n ∷ counts) h = ap (λ (l : List ℕ). n ∷ l) (stored-front room counts (omega arith))
+
+pub stored-many : (room counts : List ℕ) → length (laid room counts) ≡ length room
+unfolding laid
+stored-many [] counts = refl
+stored-many (z ∷ room) [] = refl
+stored-many (z ∷ room) (n ∷ counts) = ap suc (stored-many room counts)

@@ -2,7 +2,8 @@
 use mathlib.Core.Path.{_≡_, refl, sym, ap, subst, _∙_}
 use mathlib.Core.Bool.{Bool, true}
 use mathlib.Core.List.{List, [], _∷_}
-use Prim.Native.Nat.{ℕ}
+use Prim.Native.Nat.{ℕ, _<_}
+use native.Mathlib.Omega.{arith}
 use borrow.Author.Tests.{eq-eqb, eqb-true}
 use lib.Dec.{eqb, ltb}
 use lib.IntN.{ℤ}
@@ -19,7 +20,7 @@ use Rattle.shares.specs.Shares.{withValue}
 use Rattle.strata.specs.declared.Row.{Row}
 use Rattle.strata.specs.Strata.{partsOf, booksOf, noRow, planFrom, checkedOf, planOf}
 use Rattle.strata.specs.Starts.{agree, rowsStarted, startedOf}
-use Rattle.strata.proofs.Planning.{parts-many, rows-many, plan-facts}
+use Rattle.strata.proofs.Planning.{parts-many, rows-many, plan-facts, too-many-strata}
 use Rattle.starts.specs.Starts.{startsOf, startsIn}
 use Rattle.starts.proofs.Laws.{starts-many, starts-fit, starts-give}
 use Rattle.project.specs.Project.{projectionAt}
@@ -28,7 +29,10 @@ use Rattle.project.proofs.Checking.{lineNumbers}
 use Rattle.stratified.specs.declared.projection.ProjectionRow.{ProjectionRow}
 use Rattle.stratified.specs.Projection.{projectedFrom, projectStrataOf}
 use Rattle.handout.specs.declared.Answers.{Answers}
-use Rattle.handout.specs.Handout.{answersWith, projectedWith, startedWith, handoutOf}
+use Rattle.sheet.specs.Lines.{refusedLine}
+use Rattle.sheet.specs.Sheet.{textBy}
+use Rattle.handout.specs.Lines.{answersText}
+use Rattle.handout.specs.Handout.{answersWith, projectedWith, startedWith, handoutOf, handoutText}
 
 -- a sheet that is given: the rows of the plan, the starts that follow from its words, and the projection by strata at these starts
 pub record Figured (draws : ℕ) (counts words ledger : List ℕ) (errors : List ℤ) (a : Answers) : Type 0 where
@@ -126,3 +130,11 @@ handout-gives draws counts words ledger errors =
     gives-from handoutNumbers (projectedWith draws counts ledger errors rows) (startsOf rows words) (gives-among (12 ∷ []) handoutNumbers tt (startsOf rows words) (starts-give rows words))
     (λ chosen started. gives-after handoutNumbers _ (projectStrataOf ledger counts draws (startsIn chosen) errors)
     (gives-among lineNumbers handoutNumbers tt (projectStrataOf ledger counts draws (startsIn chosen) errors) (own-gives draws counts words ledger errors rows chosen as-long own started)) (λ sums. tt)))
+
+-- more strata than a ledger may have are refused, whatever they hold
+pub too-many : (draws : ℕ) (counts words ledger : List ℕ) (errors : List ℤ) → mostStrata < length counts → handoutText draws counts words ledger errors ≡ refusedLine 22 0
+unfolding handoutText handoutOf planOf
+too-many draws counts words ledger errors many =
+    let same : Bool = eqb (length errors) (length ledger) in
+    ap (λ (o : Outcome ℕ). textBy (answersText draws counts ledger errors) (after (startedWith draws counts words ledger errors) (after (λ total. planFrom (partsOf counts ledger) draws) o)))
+    (sym (too-many-strata ledger counts same (λ none. omega (arith, none, many)) many))

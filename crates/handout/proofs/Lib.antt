@@ -6,7 +6,6 @@ pub mod Seeking
 pub mod Composing
 pub mod Showing
 pub mod Printing
-pub mod Paging
 pub mod Worked
 pub mod Laws
 pub mod Marks

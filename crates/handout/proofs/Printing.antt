@@ -79,7 +79,7 @@ from-plan draws counts words ledger errors e = ap (after (startedWith draws coun
 enough-room : {counts ledger : List ℕ} {errors : List ℤ} {rows : List Row} → length ledger ≤ mostLines → Shows counts ledger errors rows →
     longestFor (length ledger) (length counts) ≤ roomFor (length ledger) (length counts)
 unfolding roomFor
-enough-room {counts} {ledger} few s = rw (le-ltb mostLines (length ledger) few, le-ltb mostStrata (length counts) (s .parted .few)) (omega arith)
+enough-room {counts} {ledger} few s = omega (arith, few, s .parted .few)
 
 module _ (draws : ℕ) (counts words ledger : List ℕ) (errors : List ℤ) where
   abbrev text : List ℕ

@@ -2,18 +2,15 @@
 mod lines; // lines.rt: the lines of the sheet
 
 use pen::Pen;
-use sheet::SheetAnswer;
 use strata::Row;
 use strata::StrataAnswer;
 use stratified::projection::ProjectedStrata;
 use stratified::projection::project_strata;
-use terms::Refusal;
-ghost use mathlib.Core.Path.{_≡_};
 ghost use Prim.Native.Nat.{_≤_};
 ghost use lib.ListN.{length};
 ghost use Rattle.pen.specs.Page.{Wrote};
 ghost use Rattle.handout.specs.Shows.{Planned};
-ghost use Rattle.handout.specs.Handout.{handoutText, upTo, roomFor, HandoutPromise};
+ghost use Rattle.handout.specs.Handout.{handoutText, roomFor};
 
 // The strata's rows of the plan, their starts, the words that each has read, and the projection.
 pub struct Answers {
@@ -87,42 +84,4 @@ pub fn print_handout(
             print_planned(pen, page, draws, counts, words, ledger, errors, rows)
         }
     }
-}
-
-// A number, or the most that it may be.
-fn up_to(most: usize, n: usize) -> usize
-    ensures { λ r. ⌜ r ≡ upTo most n ⌝ }
-{
-    if n > most {
-        return most;
-    }
-    n
-}
-
-// The room that every text of a content with so many lines and strata finds.
-pub fn room_for(lines: usize, strata: usize) -> usize
-    ensures { λ r. ⌜ r ≡ roomFor lines strata ⌝ }
-{
-    let most_lines = up_to(terms::MOST_LINES, lines);
-    let most_strata = up_to(terms::MOST_STRATA, strata);
-    136 + (90 * most_lines + 349 * most_strata)
-}
-
-// The text at the start of a page: 18 where the page is shorter than the longest text of such a content, and then it stays as it is.
-pub fn handout_in(
-    draws: u64,
-    counts: &[u64],
-    words: &[u64],
-    ledger: &[u64],
-    errors: &[i64],
-    page: &mut [u8],
-) -> SheetAnswer
-    ensures { λ r. ⌜ HandoutPromise draws (now (counts .entry)) (now (words .entry)) (now (ledger .entry)) (now (errors .entry)) (now (page .entry)) r (now (page .exit)) ⌝ }
-{
-    let needed = room_for(ledger.len(), counts.len());
-    if page.len() < needed {
-        return SheetAnswer::Refused(Refusal::RoomTooShort(needed as u64));
-    }
-    let end = print_handout(Pen { at: 0 }, page, draws, counts, words, ledger, errors);
-    SheetAnswer::Printed(end.at as u64)
 }

@@ -38,7 +38,8 @@ pub was-said : (o : Reading Content) {k : Contents} → readingCounts o ≡ says
 was-said (says c) e = (c, refl, cc)
 was-said (faulty wrong line) e = clash (cc)
 
-was-faulty : (o : Reading Content) {wrong : Wrong} {line : ℕ} → readingCounts o ≡ faulty wrong line → o ≡ faulty wrong line
+-- and a fault
+pub was-faulty : (o : Reading Content) {wrong : Wrong} {line : ℕ} → readingCounts o ≡ faulty wrong line → o ≡ faulty wrong line
 was-faulty (says c) e = clash (cc)
 was-faulty (faulty other place) {wrong} {line} e =
     let w : other ≡ wrong = cc in

@@ -51,7 +51,7 @@ lines-count by (bytes ∷ later) line planned c d so e =
     go (With next) q f again = again (next .planned) (took planned c (recordIn by bytes) next so q .so-far) f
     go (Not wrong) q f again = clash (cc)
 
-text-counts : (by : Notation) (text : List ℕ) (c : Content) → textOf by text ≡ says c → Counts c
+pub text-counts : (by : Notation) (text : List ℕ) (c : Content) → textOf by text ≡ says c → Counts c
 unfolding textOf
 text-counts by text c e = lines-count by (textLines text) 1 false emptyContent c (at-first (planWith 0 0 0)) e
 

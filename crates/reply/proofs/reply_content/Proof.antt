@@ -1,0 +1,21 @@
+-- `reply::reply_content` meets its contract: the first fault of the strata's order, or the sheet of as many counts as are stored. Assumes nothing.
+use borrow.Author.Needs.{needs}
+use Rattle.notation.proofs.Held.{part-long}
+use Rattle.reply.proofs.Replying.{content-faulty, lent-fits, content-printed}
+use Rattle.reply.proofs.reply_content.Statement.{statement}
+use Rattle.reply.proofs.reply_content.Tie as tie
+
+pub reply-content-spec : {M : Type 1} → statement M
+reply-content-spec =
+    tie.close
+    (tie.spec
+    (λ c κs. search needs)
+    (λ c. search needs)
+    (λ c. search needs)
+    (λ c κs. search needs)
+    (λ c. search (needs, lent-fits))
+    (λ c. search (needs, part-long, lent-fits))
+    (λ c κs. search needs)
+    (λ c. search content-faulty)
+    (λ c. search needs)
+    (λ c. search content-printed))

@@ -5,16 +5,15 @@ use mathlib.Core.List.{List}
 use mathlib.Core.Logic.{⊎-elim}
 use native.Mathlib.Omega.{arith}
 use lib.IntN.{ℤ}
-use lib.ListN.{length, take}
+use lib.ListN.{length, take, drop, length-append}
 use lib.Seq.{length-take-le}
 use Rattle.terms.proofs.Tests.{le-or-lt}
 use Rattle.records.proofs.Judging.{clash}
 use Rattle.workfile.specs.Content.{Content}
 use Rattle.workfile.specs.Promises.{Rooms}
 use Rattle.workfile.specs.declared.Contents.{Contents}
-use Rattle.workfile.proofs.Held.{empty-rooms}
 use Rattle.entry.specs.declared.Notation.the-variants.{Programmes}
-use Rattle.notation.specs.Contents.{Reading, says, faulty, textOf}
+use Rattle.notation.specs.Contents.{Reading, says, faulty}
 use Rattle.notation.specs.Parse.{ParsePromise}
 use Rattle.notation.specs.declared.Fault.{Fault}
 use Rattle.notation.specs.declared.ParseAnswer.{ParseAnswer}
@@ -28,7 +27,7 @@ use Rattle.pen.specs.Page.{Wrote}
 use Rattle.pen.proofs.Writing.{printed}
 use Rattle.handout.specs.Handout.{handoutText, roomFor}
 use Rattle.handout.proofs.Laws.{too-many}
-use Rattle.reply.specs.Reply.{onward, contentReply, replyOf, longestReply, HasRoom, ReplyPromise}
+use Rattle.reply.specs.Reply.{onward, contentReply, replyOf, replySays, HasRoom, ReplyPromise}
 use Rattle.reply.specs.declared.ReplyAnswer.{ReplyAnswer}
 use Rattle.reply.specs.declared.ReplyAnswer.the-variants.{Printed, Faulty}
 
@@ -108,3 +107,11 @@ module _ {text : List ℕ} {k : Contents} {w v : List ℕ} {e : List ℤ} (at : 
       ((λ i. contentReply (draws i) (words-held at i) (values-held at i) (errors-held at i) text)
       ∙ sym (ap (onward (λ (c : Content). contentReply (c .plan .ae) (c .words) (c .values) (c .errors) text)) (content-told at)))
       p
+
+-- a sheet that was printed fits the page
+pub printed-fits : (o : Reading (List ℕ)) {page page′ : List ℕ} {r : ReplyAnswer} {bytes : ℕ} → ReplyPromise o page r page′ → r ≡ Printed bytes → bytes ≤ length page′
+printed-fits (says sheet) {page} {page′} {r} {bytes} p e =
+    let told : says bytes ≡ says (length sheet) = sym (ap replySays e) ∙ p .answer in
+    let many : bytes ≡ length sheet = cc in
+    omega (arith, many, ap length (p .page-left), length-append sheet (drop (length sheet) page))
+printed-fits (faulty wrong line) p e = clash (let told = sym (ap replySays e) ∙ p .answer in cc)

@@ -2,19 +2,19 @@
 use mathlib.Core.Path.{_≡_, refl, sym, ap, subst, _∙_}
 use mathlib.Core.Bool.{Bool, true}
 use mathlib.Core.List.{List, [], _∷_}
-use Prim.Native.Nat.{ℕ, _<_}
+use Prim.Native.Nat.{ℕ, _≤_, _<_}
 use native.Mathlib.Omega.{arith}
-use borrow.Author.Tests.{eq-eqb, eqb-true}
-use lib.Dec.{eqb, ltb}
+use borrow.Author.Tests.{eq-eqb, eqb-true, eqb-false}
+use lib.Dec.{T, eqb, ltb}
 use lib.IntN.{ℤ}
 use lib.ListN.{length, getD, drop, length-map}
 use Rattle.terms.specs.Outcome.{Outcome, accepted, refused, after}
-use Rattle.terms.specs.Limits.{mostStrata}
+use Rattle.terms.specs.Limits.{mostLines, mostStrata}
 use Rattle.terms.specs.Numbers.{sum}
-use Rattle.terms.proofs.Outcomes.{after-accepted, Gives, gives-after, gives-among}
+use Rattle.terms.proofs.Outcomes.{after-accepted, Gives, allAmong, gives-after, gives-among}
 use Rattle.terms.proofs.Tests.{by-test}
-use Rattle.ledger.specs.Ledger.{ledgerWith}
-use Rattle.ledger.proofs.Laws.{ledgerNumbers, lent-gives}
+use Rattle.ledger.specs.Ledger.{ledgerWith, ledgerOf}
+use Rattle.ledger.proofs.Laws.{ledgerNumbers, valueNumbers, lent-gives, values-give}
 use Rattle.start.specs.declared.Chosen.{Chosen}
 use Rattle.shares.specs.Shares.{withValue}
 use Rattle.strata.specs.declared.Row.{Row}
@@ -88,13 +88,15 @@ checks-give ledger counts same =
     (λ p. by-test (Gives handoutNumbers) (ltb mostStrata (length counts)) (λ q. tt)
     (λ q. by-test (Gives handoutNumbers) (eqb (sum counts) (length ledger)) (λ r. gives-among ledgerNumbers handoutNumbers tt (ledgerWith ledger same) (lent-gives ledger same)) (λ r. tt)))
 
-plan-from-gives : (parts : List (List ℕ)) (n : ℕ) → Gives handoutNumbers (planFrom parts n)
+-- 8 and 23
+plan-from-gives : (parts : List (List ℕ)) (n : ℕ) → Gives (8 ∷ 23 ∷ []) (planFrom parts n)
 unfolding planFrom
-plan-from-gives parts n = by-test (Gives handoutNumbers) (eqb n 0) (λ p. tt) (λ p. by-test (Gives handoutNumbers) (ltb n (withValue (booksOf parts))) (λ q. tt) (λ q. tt))
+plan-from-gives parts n = by-test (Gives (8 ∷ 23 ∷ [])) (eqb n 0) (λ p. tt) (λ p. by-test (Gives (8 ∷ 23 ∷ [])) (ltb n (withValue (booksOf parts))) (λ q. tt) (λ q. tt))
 
 plan-gives : (ledger counts : List ℕ) (n : ℕ) (same : Bool) → Gives handoutNumbers (planOf ledger counts n same)
 unfolding planOf
-plan-gives ledger counts n same = gives-after handoutNumbers _ (checkedOf ledger counts same) (checks-give ledger counts same) (λ total. plan-from-gives (partsOf counts ledger) n)
+plan-gives ledger counts n same = gives-after handoutNumbers _ (checkedOf ledger counts same) (checks-give ledger counts same)
+    (λ total. gives-among (8 ∷ 23 ∷ []) handoutNumbers tt (planFrom (partsOf counts ledger) n) (plan-from-gives (partsOf counts ledger) n))
 
 projected-gives : (first : ℕ) (parts : List (List ℕ)) (rows : List Row) (starts : List ℕ) (errors : List (List ℤ)) → Gives lineNumbers (projectedFrom first parts rows starts errors)
 unfolding projectedFrom
@@ -119,17 +121,39 @@ gives-from : {A B : Type 0} (numbers : List ℕ) (next : A → Outcome B) (o : O
 gives-from numbers next (accepted a) g f = f a refl
 gives-from numbers next (refused n p) g f = g
 
+-- the refusals of the plan, 12, and those of the lines
+module _ (numbers : List ℕ) (twelve : T (allAmong (12 ∷ []) numbers)) (lines : T (allAmong lineNumbers numbers)) where
+  handout-among : (draws : ℕ) (counts words ledger : List ℕ) (errors : List ℤ) → Gives numbers (planOf ledger counts draws (eqb (length errors) (length ledger))) →
+      Gives numbers (handoutOf draws counts words ledger errors)
+  unfolding handoutOf
+  handout-among draws counts words ledger errors given =
+      let same : Bool = eqb (length errors) (length ledger) in
+      gives-from numbers (startedWith draws counts words ledger errors) (planOf ledger counts draws same) given
+      (λ rows plan. let lent : same ≡ true = plan-facts ledger counts draws same rows plan .checks .lent in
+      let as-long : length errors ≡ length ledger = eqb-true _ _ lent in
+      let own : planOf ledger counts draws true ≡ accepted rows = ap (planOf ledger counts draws) (sym lent) ∙ plan in
+      gives-from numbers (projectedWith draws counts ledger errors rows) (startsOf rows words) (gives-among (12 ∷ []) numbers twelve (startsOf rows words) (starts-give rows words))
+      (λ chosen started. gives-after numbers _ (projectStrataOf ledger counts draws (startsIn chosen) errors)
+      (gives-among lineNumbers numbers lines (projectStrataOf ledger counts draws (startsIn chosen) errors) (own-gives draws counts words ledger errors rows chosen as-long own started)) (λ sums. tt)))
+
 pub handout-gives : (draws : ℕ) (counts words ledger : List ℕ) (errors : List ℤ) → Gives handoutNumbers (handoutOf draws counts words ledger errors)
-unfolding handoutOf
-handout-gives draws counts words ledger errors =
-    let same : Bool = eqb (length errors) (length ledger) in
-    gives-from handoutNumbers (startedWith draws counts words ledger errors) (planOf ledger counts draws same) (plan-gives ledger counts draws same)
-    (λ rows plan. let lent : same ≡ true = plan-facts ledger counts draws same rows plan .checks .lent in
-    let as-long : length errors ≡ length ledger = eqb-true _ _ lent in
-    let own : planOf ledger counts draws true ≡ accepted rows = ap (planOf ledger counts draws) (sym lent) ∙ plan in
-    gives-from handoutNumbers (projectedWith draws counts ledger errors rows) (startsOf rows words) (gives-among (12 ∷ []) handoutNumbers tt (startsOf rows words) (starts-give rows words))
-    (λ chosen started. gives-after handoutNumbers _ (projectStrataOf ledger counts draws (startsIn chosen) errors)
-    (gives-among lineNumbers handoutNumbers tt (projectStrataOf ledger counts draws (startsIn chosen) errors) (own-gives draws counts words ledger errors rows chosen as-long own started)) (λ sums. tt)))
+handout-gives draws counts words ledger errors = handout-among handoutNumbers tt tt draws counts words ledger errors (plan-gives ledger counts draws (eqb (length errors) (length ledger)))
+
+-- where the counts add to the lines, each line has its error, and the lines are not too many, 30, 2 and 13 are not among them
+abbrev pub partedNumbers : List ℕ
+partedNumbers = 22 ∷ 3 ∷ 4 ∷ 5 ∷ 8 ∷ 23 ∷ 12 ∷ 14 ∷ 15 ∷ []
+
+pub parted-gives : (draws : ℕ) (counts words ledger : List ℕ) (errors : List ℤ) → length ledger ≤ mostLines → length errors ≡ length ledger → sum counts ≡ length ledger →
+    Gives partedNumbers (handoutOf draws counts words ledger errors)
+unfolding planOf checkedOf ledgerOf
+parted-gives draws counts words ledger errors few same add =
+    handout-among partedNumbers tt tt draws counts words ledger errors
+    (gives-after partedNumbers _ (checkedOf ledger counts (eqb (length errors) (length ledger)))
+    (by-test (Gives partedNumbers) (eqb (length counts) 0) (λ p. tt)
+    (λ p. by-test (Gives partedNumbers) (ltb mostStrata (length counts)) (λ q. tt)
+    (λ q. by-test (Gives partedNumbers) (eqb (sum counts) (length ledger)) (λ r. gives-among valueNumbers partedNumbers tt (ledgerOf ledger (length errors)) (values-give ledger (length errors) few same))
+    (λ r. absurd (eqb-false (sum counts) (length ledger) r add)))))
+    (λ total. gives-among (8 ∷ 23 ∷ []) partedNumbers tt (planFrom (partsOf counts ledger) draws) (plan-from-gives (partsOf counts ledger) draws)))
 
 -- more strata than a ledger may have are refused, whatever they hold
 pub too-many : (draws : ℕ) (counts words ledger : List ℕ) (errors : List ℤ) → mostStrata < length counts → handoutText draws counts words ledger errors ≡ refusedLine 22 0

@@ -6,6 +6,8 @@ use native.Mathlib.Numerals.{add-one}
 use lib.IntN.{ℤ}
 use lib.ListN.{length, getD, drop, length-map}
 use lib.Seq.{drop-drop}
+use Rattle.terms.specs.Numbers.{padTo}
+use Rattle.terms.specs.Limits.{mostStrata}
 use Rattle.signed.specs.declared.Part.the-variants.{Size}
 use Rattle.signed.specs.Parts.{parts}
 use Rattle.draw.specs.Row.{drawMarks}
@@ -16,6 +18,7 @@ use Rattle.project.proofs.Laws.{markOf, same-marks}
 use Rattle.strata.specs.declared.Row.{Row}
 use Rattle.strata.specs.Strata.{noRow}
 use Rattle.strata.proofs.Pieces.{here-at}
+use Rattle.strata.proofs.Padded.{padded-at, alike-later}
 use Rattle.stratified.specs.Marks.{strataMarks}
 use Rattle.sheet.specs.Lines.{itemsText, ledgerText}
 use Rattle.handout.specs.Lines.{drawnText}
@@ -64,3 +67,19 @@ printed-lines h first (part ∷ later) rows starts errors =
     λ i. itemsText (getD errors 0 []) first own
     ++ (ap (λ (k : ℕ). drawnText (suc h) (first + k) later rows starts (drop 1 errors)) (sym (lines-many J (getD starts h 0) part (getD errors 0 [])))
     ∙ printed-lines (suc h) (first + length own) later rows starts (drop 1 errors)) i
+
+-- the marks go by the entries of the rows and of the starts, not by what stands past the strata
+both-alike : (all : List (List ℕ)) (rows rows′ : List Row) (starts starts′ : List ℕ) → ((h : ℕ) → getD rows h noRow ≡ getD rows′ h noRow) → ((h : ℕ) → getD starts h 0 ≡ getD starts′ h 0) →
+    strataMarks all rows starts ≡ strataMarks all rows′ starts′
+unfolding strataMarks
+both-alike [] rows rows′ starts starts′ r s = refl
+both-alike (part ∷ later) rows rows′ starts starts′ r s =
+    let rest = both-alike later (drop 1 rows) (drop 1 rows′) (drop 1 starts) (drop 1 starts′) (alike-later noRow rows rows′ r) (alike-later 0 starts starts′ s) in
+    λ i. drawMarks (r 0 i .figures .interval) (s 0 i) part ++ rest i
+
+-- so the lines of a sheet have the marks that the draw by strata gives at the starts of the sheet
+pub sheet-marks : (all : List (List ℕ)) (rows : List Row) (starts : List ℕ) (errors : List (List ℤ)) →
+    marksIn (linesIn 0 all (padTo mostStrata noRow rows) (padTo mostStrata 0 starts) errors) ≡ strataMarks all rows starts
+sheet-marks all rows starts errors =
+    printed-marks 0 all (padTo mostStrata noRow rows) (padTo mostStrata 0 starts) errors
+    ∙ both-alike all (padTo mostStrata noRow rows) rows (padTo mostStrata 0 starts) starts (padded-at noRow mostStrata rows) (padded-at 0 mostStrata starts)

@@ -5,6 +5,14 @@ use Rattle.reply.proofs.Replying.{content-faulty, lent-fits, content-pr
 use Rattle.reply.proofs.reply_content.Statement.{statement}
 use Rattle.reply.proofs.reply_content.Tie as tie
 
+returns-2 : tie.Need-returns-2
+returns-2 c =
+    let printed = c .before .before in
+    let lent = printed .before .before .before in
+    let known = lent .before .before in
+    let made = known .before .before .before in
+    content-printed _ _ _ _ _ _ (made .divide .ensures) (known .found2 .given .1) (made .before .before .before .before .before .pre) (lent .up-to .ensures) (printed .print-handout .ensures)
+
 pub reply-content-spec : {M : Type 1} → statement M
 reply-content-spec =
     tie.close
@@ -18,4 +26,4 @@ reply-content-spec =
     (λ c κs. search needs)
     (λ c. search content-faulty)
     (λ c. search needs)
-    (λ c. search content-printed))
+    returns-2)

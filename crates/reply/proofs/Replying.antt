@@ -75,18 +75,18 @@ module _ (text : List ℕ) (draws : ℕ) (words values : List ℕ) (errors : Lis
     pub lent-fits : {stored : ℕ} → stored ≡ min n 33 → stored ≤ length (d .counts)
     lent-fits is = let t = strata-told (dividedOf text) e f in omega (arith, is, ap length (t .3), stored-many noCounts (t .0))
 
-    pub content-printed : HasRoom values page → {stored at : ℕ} {page′ : List ℕ} → stored ≡ min n 33 →
-        Wrote page 0 (handoutText draws (take stored (d .counts)) words values errors) page′ at
+    pub content-printed : HasRoom values page → {stored first at : ℕ} {page′ : List ℕ} → stored ≡ min n 33 →
+        Wrote page first (handoutText draws (take stored (d .counts)) words values errors) page′ at
         × (length (handoutText draws (take stored (d .counts)) words values errors) ≤ roomFor (length values) (length (take stored (d .counts)))) →
-        ReplyPromise (contentReply draws words values errors text) page (Printed at) page′
+        first ≡ 0 → ReplyPromise (contentReply draws words values errors text) page (Printed at) page′
     unfolding contentReply roomFor
-    content-printed has {stored} {at} {page′} is w =
+    content-printed has {stored} {first} {at} {page′} is w front =
         let t = strata-told (dividedOf text) e f in
         let own : take stored (d .counts) ≡ take (min (length (t .0)) 33) (laid noCounts (t .0)) =
         (λ i. take ((is ∙ ap (λ (k : ℕ). min k 33) (sym (t .2))) i) (t .3 i)) in
         let same : handoutText draws (take stored (d .counts)) words values errors ≡ handoutText draws (t .0) words values errors =
         ap (λ l. handoutText draws l words values errors) own ∙ stored-text draws (t .0) words values errors in
-        let p = printed _ _ _ _ (omega (arith, w .1, has .few, has .room)) (w .0) in
+        let p = printed _ _ _ _ (omega (arith, w .1, has .few, has .room)) (subst (λ (k : ℕ). Wrote page k (handoutText draws (take stored (d .counts)) words values errors) page′ at) front (w .0)) in
         moved (ap says same ∙ sym (ap (onward (λ counts. says (handoutText draws counts words values errors))) (t .1)))
         (record { answer = ap says (p .counted); page-left = p .whole })
 
@@ -98,13 +98,13 @@ text-faulty {text} page rooms p f =
     faulted page (ap (onward (λ (c : Content). contentReply (c .plan .ae) (c .words) (c .values) (c .errors) text)) (fault-told rooms p f))
 
 module _ {text : List ℕ} {k : Contents} {w v : List ℕ} {e : List ℤ} (at : AtParsed Programmes text k w v e) where
-  pub text-replied : {page page′ : List ℕ} {r : ReplyAnswer} →
-      ReplyPromise (contentReply (k .ae) (take (k .words) w) (take (k .lines) v) (take (k .lines) e) text) page r page′ → ReplyPromise (replyOf text) page r page′
+  pub text-replied : {draws : ℕ} {page page′ : List ℕ} {r : ReplyAnswer} →
+      ReplyPromise (contentReply draws (take (k .words) w) (take (k .lines) v) (take (k .lines) e) text) page r page′ → draws ≡ k .ae → ReplyPromise (replyOf text) page r page′
   unfolding replyOf
-  text-replied p =
-      let draws : k .ae ≡ content at .plan .ae = sym (ap (λ (x : Contents). x .ae) (counts-told at)) in
+  text-replied {draws} p is =
+      let own : draws ≡ content at .plan .ae = is ∙ sym (ap (λ (x : Contents). x .ae) (counts-told at)) in
       moved
-      ((λ i. contentReply (draws i) (words-held at i) (values-held at i) (errors-held at i) text)
+      ((λ i. contentReply (own i) (words-held at i) (values-held at i) (errors-held at i) text)
       ∙ sym (ap (onward (λ (c : Content). contentReply (c .plan .ae) (c .words) (c .values) (c .errors) text)) (content-told at)))
       p
 

@@ -1,4 +1,5 @@
 -- `reply::reply` meets its contract: the first fault of a line, or what is replied to the content. Assumes nothing.
+use mathlib.Core.Path.{refl}
 use native.Mathlib.Omega.{arith}
 use borrow.Author.Needs.{needs}
 use Rattle.entry.specs.declared.Notation.the-variants.{Programmes}
@@ -33,4 +34,4 @@ reply-spec =
     (λ c. part-long _ _ (errors-fit (at-parsed (c .before .before .before .before))))
     (λ c κs. record { few = few-lines (at-parsed (c .before .before .before .before .before)); room = omega arith })
     (λ c. text-faulty _ empty-rooms (c .before .before .before .before .before .before .parse .ensures) (c .before .fault .given .1))
-    (λ c. text-replied (at-parsed (c .before .before .before .before .before .before)) (c .reply-content .ensures)))
+    (λ c. text-replied (at-parsed (c .before .before .before .before .before .before)) (c .reply-content .ensures) refl))

@@ -1,4 +1,5 @@
 -- `reply::reply_content` meets its contract: the first fault of the strata's order, or the sheet of as many counts as are stored. Assumes nothing.
+use mathlib.Core.Path.{refl}
 use borrow.Author.Needs.{needs}
 use Rattle.notation.proofs.Held.{part-long}
 use Rattle.reply.proofs.Replying.{content-faulty, lent-fits, content-printed}
@@ -11,7 +12,7 @@ returns-2 c =
     let lent = printed .before .before .before in
     let known = lent .before .before in
     let made = known .before .before .before in
-    content-printed _ _ _ _ _ _ (made .divide .ensures) (known .found2 .given .1) (made .before .before .before .before .before .pre) (lent .up-to .ensures) (printed .print-handout .ensures)
+    content-printed _ _ _ _ _ _ (made .divide .ensures) (known .found2 .given .1) (made .before .before .before .before .before .pre) (lent .up-to .ensures) (printed .print-handout .ensures) refl
 
 pub reply-content-spec : {M : Type 1} → statement M
 reply-content-spec =

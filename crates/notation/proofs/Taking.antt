@@ -59,9 +59,9 @@ module _ (s : State) (level te ae : ℕ) where
 
 -- S, by its test
 module _ (s : State) where
-  pub stratum-first : s .planned ≡ false → Not NoPlan ≡ takenStratum s
+  pub stratum-first : s .planned ≡ false → {t : Taken} → t ≡ Not NoPlan → t ≡ takenStratum s
   unfolding takenStratum
-  stratum-first p = rw p
+  stratum-first p e = rw p e
 
   pub stratum-after : s .planned ≡ true → With s ≡ takenStratum s
   unfolding takenStratum

@@ -8,7 +8,7 @@ returns : tie.Need-returns
 returns c = search (needs, stratum-after)
 
 returns-2 : tie.Need-returns-2
-returns-2 c = stratum-first _ (c .if1 .left)
+returns-2 c = search (needs, stratum-first)
 
 pub take-stratum-spec : {M : Type 1} → statement M
 take-stratum-spec = tie.close (tie.spec returns returns-2)

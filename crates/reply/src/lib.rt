@@ -47,7 +47,15 @@ fn reply_content(
         DividedAnswer::InStrata(strata) => {
             let stored = up_to(divided::STORED, strata);
             let own = &counts[..stored];
-            let end = handout::print_handout(Pen { at: 0 }, page, draws, own, words, values, errors);
+            let end = handout::print_handout(
+                Pen { at: 0 },
+                page,
+                draws,
+                own,
+                words,
+                values,
+                errors,
+            );
             ReplyAnswer::Printed(end.at)
         }
     }

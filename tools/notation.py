@@ -15,6 +15,11 @@ a record: a kind of one letter, then as many numbers as the kind has, in decimal
     U line size        too little was claimed, by this size from 1 to 2^63
 
 The lines of E and U are numbered from 0, strictly rise, E and U taken together, and are below the count of L.
+
+A ledger in strata has a notation of its own, with two others in the place of P.
+
+    N draws            the number of draws; exactly one, first
+    S                  before the lines of each stratum; after every W, and before any E and U
 """
 
 import sys
@@ -24,7 +29,7 @@ import reference
 
 MOST_NUMBER = 2**64 - 1
 
-# What is wrong with a line, by its number.
+# What is wrong with a line, by its number; in a ledger in strata the words of some name its own kinds.
 WRONG = {
     1: "the line begins with none of P, W, L, E, U and #",
     2: "a number is missing",
@@ -44,15 +49,26 @@ WRONG = {
     16: "E passes 2^63 - 1, or U 2^63",
 }
 
-NUMBERS_OF = {b"P": 3, b"W": 1, b"L": 1, b"E": 2, b"U": 2}
+WRONG_IN_STRATA = WRONG | {
+    1: "the line begins with none of N, S, W, L, E, U and #",
+    6: "N has to come first",
+    7: "a second N",
+    9: "records come in order N, W, S and L, then E and U",
+    18: "S has to come before L",
+}
+
+NUMBERS_OF = {b"W": 1, b"L": 1, b"E": 2, b"U": 2}
+Notation = NamedTuple("Notation", [("opening", bytes), ("numbers_of", dict), ("wrong", dict)])
+DESK = Notation(b"P", NUMBERS_OF | {b"P": 3}, WRONG)
+PROGRAMMES = Notation(b"N", NUMBERS_OF | {b"N": 1, b"S": 0}, WRONG_IN_STRATA)
 
 
 class Fault(NamedTuple):
     line: int
     number: int
 
-    def text(self):
-        return f"line {self.line}: {WRONG[self.number]}\n"
+    def text(self, by=DESK):
+        return f"line {self.line}: {by.wrong[self.number]}\n"
 
 
 class Wrong(Exception):
@@ -115,6 +131,16 @@ def take_plan(contents, level, te, ae):
     contents.plan = level, te, ae
 
 
+def take_draws(contents, draws):
+    if contents.plan is not None:
+        raise Wrong(7)
+    contents.plan = (draws,)
+
+
+def take_stratum(contents):
+    """Where it may stand is judged when every line is known to be a record (divide)."""
+
+
 def take_word(contents, word):
     if contents.values:
         raise Wrong(9)
@@ -154,31 +180,50 @@ def take_understated(contents, line, size):
     contents.errors[line] = -size
 
 
-TAKE = {b"P": take_plan, b"W": take_word, b"L": take_value, b"E": take_overstated, b"U": take_understated}
+TAKE = {b"W": take_word, b"L": take_value, b"E": take_overstated, b"U": take_understated}
+TAKE |= {b"P": take_plan, b"N": take_draws, b"S": take_stratum}
 
 
-def take_line(contents, line):
+def take_line(contents, line, by):
     fields = fields_of(line)
     if not fields or fields[0].startswith(b"#"):
         return
     kind = fields[0]
-    if kind not in NUMBERS_OF:
+    if kind not in by.numbers_of:
         raise Wrong(1)
-    numbers = numbers_of(fields[1:], NUMBERS_OF[kind])
-    if kind != b"P" and contents.plan is None:
+    numbers = numbers_of(fields[1:], by.numbers_of[kind])
+    if kind != by.opening and contents.plan is None:
         raise Wrong(6)
     TAKE[kind](contents, *numbers)
 
 
-def parse(text):
-    """The contents of a text, or its first fault; a text without P is at fault in the line after its last."""
+def parse(text, by=DESK):
+    """The contents of a text, or its first fault; a text without P or N is at fault in the line after its last."""
     contents, number = Contents(), 0
     for number, line in enumerate(lines_of(text), start=1):
         try:
-            take_line(contents, line)
+            take_line(contents, line, by)
         except Wrong as wrong:
             return Fault(number, wrong.args[0])
     return contents if contents.plan is not None else Fault(number + 1, 6)
+
+
+def divide(text):
+    """How many lines each stratum of a text has that parse takes, or the first line that stands where it may not."""
+    counts, late = [], False
+    for number, line in enumerate(lines_of(text), start=1):
+        kind = b"".join(fields_of(line)[:1])
+        if kind == b"S" and late or kind == b"W" and counts:
+            return Fault(number, 9)
+        if kind == b"L" and not counts:
+            return Fault(number, 18)
+        if kind == b"S":
+            counts.append(0)
+        elif kind == b"L":
+            counts[-1] += 1
+        elif kind in (b"E", b"U"):
+            late = True
+    return counts
 
 
 def main(arguments):

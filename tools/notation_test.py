@@ -4,7 +4,7 @@ import random
 import sys
 
 import reference
-from notation import MOST_NUMBER, WRONG, Contents, Fault, parse
+from notation import DESK, MOST_NUMBER, PROGRAMMES, WRONG, WRONG_IN_STRATA, Contents, Fault, divide, parse
 
 PRACTICE = b"# the practice ledger\nP 90 100 0\n\nW 63\nW 25\nL 30\nL 30\nL 40\nL 20\n  E 0\t7 \r\nE 2 10\nE 3 5"
 PLAN = b"P 90 100 0\n"
@@ -35,6 +35,40 @@ def faults():
             yield PLAN + b"L 1\nL 1\n" + former + b" 1 1\n" + latter + b" " + line + b" 1", 5, 14
     yield from ((PLAN + b"L 30\nU 0 0", 3, 15), (PLAN + b"L 30\nE 0 9223372036854775808", 3, 16), (PLAN + b"L 30\nU 0 9223372036854775809", 3, 16))
     yield from ((PLAN + b"L 30\nE 1 9223372036854775808", 3, 13), (PLAN + b"L 30\nE 0 1\nU 0 9223372036854775809", 4, 14))
+
+
+def faults_in_strata():
+    """The same for a ledger in strata: what its own kinds can break."""
+    yield from ((b"P 90 100 0", 1, 1), (b"n 3", 1, 1), (b"N 3\nSS", 2, 1), (b"N", 1, 2), (b"N x", 1, 3), (b"N 18446744073709551616", 1, 4))
+    yield from ((b"N 3 4", 1, 5), (b"N 3\nS 5", 2, 5), (b"S", 1, 6), (b"S\nN 3", 1, 6), (b"W 1\nN 3", 1, 6), (b"# no N\n", 2, 6), (b"", 1, 6))
+    yield from ((b"N 3\nN 3", 2, 7), (b"N 3\nS\nN 4", 3, 7), (b"N 3\nS\nL 1\nW 1", 4, 9), (b"N 3\nS\nL 1\nE 0 1\nL 1", 5, 9))
+    yield from ((b"N 3\n" + b"W 1\n" * 65, 66, 10), (b"N 3\nS\n" + b"L 1\n" * 2049, 2051, 11), (b"N 3\nS\nL 18446744073709551615\nS\nL 1", 5, 12))
+    yield from ((b"N 3\nS\nL 1\nE 1 1", 4, 13), (b"N 3\nS\nL 1\nS\nL 1\nU 1 1\nE 0 1", 7, 14), (b"N 3\nS\nL 1\nE 0 0", 4, 15), (b"N 3\nS\nL 1\nE 0 9223372036854775808", 4, 16))
+
+
+def faults_of_order():
+    """Texts whose lines are records, with the first that stands where it may not."""
+    yield from ((b"N 3\nL 30\nS", 2, 18), (b"N 3\n# S\nL 30", 3, 18), (b"N 3\nS\nL 30\nE 0 7\nS", 5, 9), (b"N 3\nS\nL 1\nU 0 7\nS", 5, 9), (b"N 3\nS\nW 63", 3, 9))
+
+
+def strata():
+    """Texts with the line counts of their strata."""
+    yield from ((b"N 3\nW 63\nS\nL 30\nL 30\n S \r\nL 40\nE 0 7\nU 2 10", [2, 1]), (b"N 3\nS\nS\nL 5\nS", [0, 1, 0]), (b"N 3\nW 1", []))
+    yield b"N 3\n" + b"S\nL 1\n" * 40, [1] * 40
+
+
+def in_strata():
+    for text, line, number in faults_in_strata():
+        same(text[:40], parse(text, PROGRAMMES), Fault(line, number))
+    for text, line, number in faults_of_order():
+        same(text[:40], (type(parse(text, PROGRAMMES)), divide(text)), (Contents, Fault(line, number)))
+    given = {number for _, _, number in (*faults_in_strata(), *faults_of_order())}
+    same("every fault of strata", given, set(WRONG_IN_STRATA) - {8})
+    for text, counts in strata():
+        same(text[:40], (divide(text), sum(counts)), (counts, len(parse(text, PROGRAMMES).values)))
+    same("draws", parse(b"N 3", PROGRAMMES).plan, (3,))
+    same("a kind of each", [parse(text) for text in (b"N 3", b"P 90 100 0\nS")], [Fault(1, 1), Fault(2, 1)])
+    same("words", [Fault(1, 6).text(by) for by in (DESK, PROGRAMMES)], ["line 1: P has to come first\n", "line 1: N has to come first\n"])
 
 
 def random_contents(r):
@@ -86,6 +120,7 @@ def run():
         same(text[:40], type(parse(text)), Contents)
     widest = parse(PLAN + b"L 1\nL 1\nU 0 9223372036854775808\nE 1 9223372036854775807")
     same("widest errors", widest.all_errors(), [-(2**63), 2**63 - 1])
+    in_strata()
     r = random.Random(1)
     for _ in range(200):
         contents = random_contents(r)
@@ -95,4 +130,4 @@ def run():
         expected = contents.plan, contents.words, contents.values, contents.all_errors()
         same(text[:40], (found.plan, found.words, found.values, found.all_errors()), expected)
         same(text[:40], reference.decode(found.file()), expected)
-    print("notation: the practice text, every fault, every limit and 200 random texts agree")
+    print("notation: the practice text, every fault, every limit, ledgers in strata and 200 random texts agree")

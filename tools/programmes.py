@@ -2,18 +2,20 @@
 """The tables of docs/HANDBOOK.md for the ledger of four programmes (tools/self_test_strata.py), and the text that examples/c/programmes.c prints of it.
 
     python3 tools/programmes.py write      puts the tables into the page, each in the place of the one with its heading, and writes examples/c/programmes.out
-    python3 tools/programmes.py check      compares both with what is there
+    python3 tools/programmes.py check      compares both with what is there; the sample programmes-four holds the same ledger
 """
 
 import sys
 from fractions import Fraction
 
 import reference
+import reference_programmes
 import reference_strata
 from mistakes import PAGE, ROOT, with_tables
 from self_test_strata import COUNTS, DRAWS, ERRORS, LEDGER, PROGRAMMES, STARTS
 
 TEXT = ROOT / "examples/c/programmes.out"
+SAMPLE = ROOT / "samples/programmes-four.txt"
 LEVEL = 90
 
 PARTS = reference_strata.parts_of(COUNTS, LEDGER)
@@ -131,9 +133,18 @@ def text():
     yield from ("", f"all programmes: overstated {FOUND.overstated}, understated {FOUND.understated}, net {FOUND.net}")
 
 
+def check_sample():
+    """The sample is of this ledger, and its words lead to the same starts."""
+    content = reference_programmes.contents_of(SAMPLE.read_bytes())
+    found = reference_programmes.starts_of(reference_strata.strata_of(LEDGER, COUNTS, DRAWS), content.words)
+    if content != (DRAWS, COUNTS, content.words, LEDGER, ERRORS) or [one.start for one in found] != STARTS:
+        sys.exit(f"{SAMPLE.relative_to(ROOT)} is of another ledger")
+
+
 def main(arguments):
     if arguments not in (["write"], ["check"]):
         sys.exit(__doc__)
+    check_sample()
     ways = ledger_table(), shares_table(), splits_table(), amounts_table(), projection_table(), limits_table()
     made = {PAGE: with_tables(PAGE.read_text(), ["\n".join(lines) for lines in ways]), TEXT: "\n".join([*text(), ""])}
     for path, content in made.items():

@@ -2,7 +2,8 @@
 """Kanthiwop's reference: every step of monetary unit sampling, by definition.
 
 It is written from the rules alone, in exact whole numbers, to be read beside them. It shares nothing with the
-proved program, so that the two can be held against each other. The operations by strata stand in tools/reference_strata.py.
+proved program, so that the two can be held against each other. The operations by strata stand in tools/reference_strata.py, the
+program for them in tools/reference_programmes.py.
 
 An operation takes its inputs and its lent buffers (lists of numbers, or bytearrays), and returns its answer or a
 Refusal (number, place). It stores into a lent buffer only after its last check: a refused call leaves every buffer.
@@ -614,10 +615,12 @@ def desk(file):
 def main(arguments):
     if arguments == ["check"]:
         import self_test  # they stand on this file
+        import self_test_programmes
         import self_test_strata
 
         self_test.run()
         self_test_strata.run()
+        self_test_programmes.run()
     elif arguments == ["desk"]:
         sys.stdout.buffer.write(desk(sys.stdin.buffer.read()))
     elif arguments == ["factors"]:

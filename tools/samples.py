@@ -1,14 +1,15 @@
 #!/usr/bin/env python3
-"""The samples: working files as text, and what the desk program says to each.
+"""The samples: ledgers as text, and what the desk program or the program for strata says to each.
 
-    python3 tools/samples.py write           makes samples/NAME.out for every sample, by the reference
-    python3 tools/samples.py check           compares the stored ones, and the figures told in large-grants.txt
-    python3 tools/samples.py pack FILE       writes the working file of a sample to standard output
-    python3 tools/samples.py run COMMAND ..  runs a desk program on every sample and compares
-    python3 tools/samples.py make COMMAND .. runs a program that makes the working file of a text, and compares
+    python3 tools/samples.py write                  makes samples/NAME.out for every sample, by the reference
+    python3 tools/samples.py check                  compares the stored ones, and the figures told in large-grants.txt
+    python3 tools/samples.py pack FILE              writes the working file of a sample to standard output
+    python3 tools/samples.py run COMMAND ..         runs a desk program on every working file and compares
+    python3 tools/samples.py make COMMAND ..        runs a program that makes the working file of a text, and compares
+    python3 tools/samples.py programmes COMMAND ..  runs a program for strata on every text of a ledger in strata and compares
 
-A sample NAME.txt is a text in the notation (tools/notation.py). A sample NAME.hex holds the bytes themselves, for files that no text
-can give.
+A sample NAME.txt is a text in the notation (tools/notation.py), of a working file, or of a ledger in strata where its first record is N. A sample
+NAME.hex holds the bytes of a working file themselves, for files that no text can give.
 """
 
 import pathlib
@@ -17,6 +18,7 @@ import sys
 
 import notation
 import reference
+import reference_programmes
 
 SAMPLES = pathlib.Path(__file__).resolve().parent.parent / "samples"
 
@@ -41,6 +43,28 @@ def file_of(path):
 
 def every_sample():
     return sorted([*SAMPLES.glob("*.txt"), *SAMPLES.glob("*.hex")])
+
+
+def is_in_strata(path):
+    return path.suffix == ".txt" and reference_programmes.in_strata(path.read_bytes())
+
+
+def working_files():
+    return [path for path in every_sample() if not is_in_strata(path)]
+
+
+def ledgers_in_strata():
+    return [path for path in every_sample() if is_in_strata(path)]
+
+
+def sheet_of(path):
+    """What is said to a sample, by the reference."""
+    if not is_in_strata(path):
+        return reference.desk(file_of(path))
+    out, err = reference_programmes.answer_to(path.read_bytes())
+    if err:
+        sys.exit(f"samples/{path.name}: {err.decode()}")
+    return out
 
 
 # ---- What one round of the split would say ----
@@ -94,13 +118,13 @@ def told_figures(file):
 
 def write():
     for path in every_sample():
-        path.with_suffix(".out").write_bytes(reference.desk(file_of(path)))
+        path.with_suffix(".out").write_bytes(sheet_of(path))
 
 
 def check():
     for path in every_sample():
         out = path.with_suffix(".out")
-        if not out.exists() or out.read_bytes() != reference.desk(file_of(path)):
+        if not out.exists() or out.read_bytes() != sheet_of(path):
             sys.exit(f"samples/{out.name} is not what the reference gives")
     told = (SAMPLES / "large-grants.txt").read_text().splitlines()
     for line in told_figures(file_of(SAMPLES / "large-grants.txt")):
@@ -108,21 +132,36 @@ def check():
             sys.exit(f"samples/large-grants.txt does not tell: {line}")
 
 
+def compare(command, path, given, expected):
+    found = subprocess.run(command, input=given, stdout=subprocess.PIPE).stdout
+    if found != expected:
+        sys.exit(f"samples/{path.name}: found\n{found.decode(errors='replace')}")
+
+
 def run(command):
-    for path in every_sample():
-        found = subprocess.run(command, input=file_of(path), stdout=subprocess.PIPE).stdout
-        if found != path.with_suffix(".out").read_bytes():
-            sys.exit(f"samples/{path.name}: found\n{found.decode(errors='replace')}")
+    for path in working_files():
+        compare(command, path, file_of(path), path.with_suffix(".out").read_bytes())
+    return working_files()
 
 
 def make(command):
-    for path in SAMPLES.glob("*.txt"):
-        found = subprocess.run(command, input=path.read_bytes(), stdout=subprocess.PIPE).stdout
-        if found != file_of(path):
-            sys.exit(f"samples/{path.name}: another working file was made")
+    texts = [path for path in working_files() if path.suffix == ".txt"]
+    for path in texts:
+        compare(command, path, path.read_bytes(), file_of(path))
+    return texts
+
+
+def programmes(command):
+    for path in ledgers_in_strata():
+        compare(command, path, path.read_bytes(), path.with_suffix(".out").read_bytes())
+    return ledgers_in_strata()
+
+
+COMMANDS = {"run": run, "make": make, "programmes": programmes}
 
 
 def main(arguments):
+    taken = every_sample()
     if arguments == ["write"]:
         write()
     elif arguments == ["check"]:
@@ -130,13 +169,11 @@ def main(arguments):
     elif arguments[:1] == ["pack"] and len(arguments) == 2:
         sys.stdout.buffer.write(file_of(pathlib.Path(arguments[1])))
         return
-    elif arguments[:1] == ["run"] and len(arguments) > 1:
-        run(arguments[1:])
-    elif arguments[:1] == ["make"] and len(arguments) > 1:
-        make(arguments[1:])
+    elif arguments[:1] and arguments[0] in COMMANDS and len(arguments) > 1:
+        taken = COMMANDS[arguments[0]](arguments[1:])
     else:
         sys.exit(__doc__)
-    print(f"{len(every_sample())} samples")
+    print(f"{len(taken)} samples")
 
 
 if __name__ == "__main__":

@@ -23,6 +23,7 @@ use Rattle.project.specs.declared.ProjectAnswer.the-variants as project
 use Rattle.judge.specs.declared.JudgeAnswer.{JudgeAnswer}
 use Rattle.judge.specs.declared.JudgeAnswer.the-variants as judge
 use Rattle.strata.specs.declared.Row.{Row}
+use Rattle.start.specs.declared.Chosen.{Chosen}
 use Rattle.strata.specs.declared.StrataAnswer.{StrataAnswer}
 use Rattle.strata.specs.declared.StrataAnswer.the-variants as strata
 use Rattle.stratified.specs.declared.projection.ProjectionRow.{ProjectionRow}
@@ -49,6 +50,8 @@ use Rattle.steps.proofs.Laws.{steps-once}
 use Rattle.sheet.specs.Sheet.{SheetPromise}
 use Rattle.sheet.proofs.OneText.{sheet-once}
 use Rattle.notation.proofs.Laws.{parsed-once}
+use Rattle.starts.specs.Starts.{StartsPromise}
+use Rattle.reply.proofs.Laws.{reply-once}
 use Rattle.results.specs.Seen.{Sees}
 use Rattle.contracts.specs.Unique.{One, OneWith, Three, NoFreedom}
 
@@ -131,6 +134,10 @@ judge-once _ _ _ _ _ _ r s p q = one-answer judgeSays judge.Judged judge.Refused
 plan-once : (o : Outcome (List Row)) → One (PlanPromise o)
 plan-once _ r s p q = λ i. record { answer = strata-answer (r .answer) (s .answer) (p .answer) (q .answer) i; rows = (p .rows ∙ sym (q .rows)) i }
 
+starts-once : (o : Outcome (List Chosen)) → One (StartsPromise o)
+starts-once _ r s p q =
+    λ i. record { answer = strata-answer (r .answer) (s .answer) (p .answer) (q .answer) i; starts = (p .starts ∙ sym (q .starts)) i; words = (p .words ∙ sym (q .words)) i }
+
 strata-draw-once : (ledger counts : List ℕ) (n : ℕ) (starts marks : List ℕ) → OneWith (DrawStrataPromise ledger counts n starts marks)
 strata-draw-once _ _ _ _ _ r s _ _ p q = (draw-answer r s (p .answer) (q .answer), p .marks-left ∙ sym (q .marks-left))
 
@@ -196,8 +203,11 @@ no-freedom =
       read-then-write = read-then-written-once;
       sheet = λ _ _ _ _ _ _ p q. printed-once p q;
       sheet-in = sheets-once;
-      parse = λ _ _ _ _ _ _ _ _ p q. let same = parsed-once p q in (same .answers, λ i. (same .words i, same .values i, same .errors i));
-      print-fault = λ _ _ _ _ _ _ p q. printed-once p q;
+      parse = λ _ _ _ _ _ _ _ _ _ p q. let same = parsed-once p q in (same .answers, λ i. (same .words i, same .values i, same .errors i));
+      print-fault = λ _ _ _ _ _ _ _ p q. printed-once p q;
+      divide = λ _ _ _ p q. p ∙ sym q;
+      starts = λ _ _. starts-once _;
+      reply = λ _ _ _ _ _ _ p q. reply-once p q;
       mus-size = λ percent total te ae. sees (size-once percent total te ae);
       mus-split = λ ledger n marks. sees-with (split-once ledger n marks);
       mus-start = λ J words. sees (start-once J words);

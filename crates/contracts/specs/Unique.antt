@@ -17,6 +17,7 @@ use Rattle.draw.specs.Draw.{drawSays, DrawPromise}
 use Rattle.project.specs.Project.{projectSays, ProjectPromise}
 use Rattle.lines.specs.Each.{LinesPromise}
 use Rattle.judge.specs.Judge.{judgeSays, JudgePromise}
+use Rattle.strata.specs.declared.Row.{Row}
 use Rattle.strata.specs.Strata.{planOf, PlanPromise}
 use Rattle.strata.specs.Starts.{startedOf}
 use Rattle.stratified.specs.Marks.{DrawStrataPromise}
@@ -27,9 +28,13 @@ use Rattle.workfile.specs.Promises.{readSays, writeSays, ReadPromise, WriteProm
 use Rattle.roundtrip.specs.RoundTrip.{WriteThenRead, ReadThenWrite}
 use Rattle.pen.specs.Page.{Printed}
 use Rattle.sheet.specs.Sheet.{sheetText, sheetSays, SheetPromise}
+use Rattle.entry.specs.declared.Notation.{Notation}
 use Rattle.notation.specs.declared.Fault.{Fault}
 use Rattle.notation.specs.Parse.{ParsePromise}
 use Rattle.faults.specs.Faults.{faultText}
+use Rattle.divided.specs.Divided.{dividedOf, storedIn}
+use Rattle.starts.specs.Starts.{startsOf, StartsPromise}
+use Rattle.reply.specs.Reply.{replyOf, ReplyPromise}
 use Rattle.results.specs.Seen.{Sees}
 use Rattle.results.specs.Results.{sizeSeen, splitSeen, startSeen, drawSeen, projectSeen, judgeSeen, readSeen, writeSeen, sheetSeen}
 use Rattle.results.specs.Strata.{strataPlanSeen, strataDrawSeen, strataProjectSeen}
@@ -73,8 +78,11 @@ pub record NoFreedom : Type 0 where
   pub read-then-write : (file again : List ℕ) → OneWith (ReadThenWrite file again)
   pub sheet : (file page : List ℕ) → OneWith (Printed (sheetText file) page)
   pub sheet-in : (file page : List ℕ) → OneWith (SheetPromise file page)
-  pub parse : (text words values : List ℕ) (errors : List ℤ) → OneWith (λ r (b : Three). ParsePromise text words values errors r (b .0) (b .1) (b .2))
-  pub print-fault : (fault : Fault) (page : List ℕ) → OneWith (Printed (faultText fault) page)
+  pub parse : (by : Notation) (text words values : List ℕ) (errors : List ℤ) → OneWith (λ r (b : Three). ParsePromise by text words values errors r (b .0) (b .1) (b .2))
+  pub print-fault : (by : Notation) (fault : Fault) (page : List ℕ) → OneWith (Printed (faultText by fault) page)
+  pub divide : (text : List ℕ) → One (λ r. r ≡ storedIn (dividedOf text))
+  pub starts : (rows : List Row) (words : List ℕ) → One (StartsPromise (startsOf rows words))
+  pub reply : (text page : List ℕ) → OneWith (ReplyPromise (replyOf text) page)
   -- the exports
   pub mus-size : (percent total te ae : ℕ) → One (Sees sizeSeen sizeSays (SizePromise percent total te ae))
   pub mus-split : (ledger : List ℕ) (n : ℕ) (marks : List ℕ) → OneWith (λ r b. Sees splitSeen splitSays (λ a. SplitPromise ledger n marks a b) r)

@@ -1,12 +1,17 @@
 -- The record of a line, field by field as the code reads it. Assumes nothing.
 use mathlib.Core.Path.{_≡_, refl, sym, ap, _∙_}
+use mathlib.Core.Bool.{Bool, true, false, not}
 use mathlib.Core.List.{List, _∷_}
 use Prim.Native.Nat.{ℕ, zero, suc, _-_, _≤_, _<_}
 use native.Mathlib.Omega.{arith}
 use lib.ListN.{length, getD, take, drop}
 use borrow.Author.Tests.{eq-eqb, ne-eqb}
-use Rattle.entry.specs.Records.{numberOf, withNumber, next, ended, oneMore, noNumbers, numbersFrom, countOf, madeOf, withNumbers, recordWith, recordBy, recordIn}
+use lib.Dec.{eqb}
+use Rattle.terms.specs.Numbers.{pick}
+use Rattle.entry.specs.Records.{numberOf, withNumber, next, ended, oneMore, noNumbers, numbersFrom, isOwn, isKind, countOf, madeOf, withNumbers, recordWith, recordBy, recordIn}
 use Rattle.entry.specs.Steps.{Reached, fieldsAt, nextSays, nextPlace, NextNumber}
+use Rattle.entry.specs.declared.Notation.{Notation}
+use Rattle.entry.specs.declared.Notation.the-variants.{Desk, Programmes}
 use Rattle.entry.specs.declared.Wrong.{Wrong}
 use Rattle.entry.specs.declared.Wrong.the-variants.{UnknownKind, NumberMissing, FieldTooMany}
 use Rattle.entry.specs.declared.NumberAnswer.{NumberAnswer}
@@ -19,6 +24,7 @@ use Rattle.entry.specs.declared.NumbersAnswer.{NumbersAnswer}
 use Rattle.entry.specs.declared.NumbersAnswer.the-variants.{Read, Unread}
 use Rattle.entry.specs.declared.Record.{Record}
 use Rattle.entry.specs.declared.Record.the-variants.{Nothing, Unreadable}
+use Rattle.entry.proofs.Runs.{turned, unturned}
 use Rattle.entry.proofs.Cuts.{no-field, some-field-left, first-field, field-length, field-byte}
 
 -- the next number
@@ -88,57 +94,81 @@ module _ {line : List ℕ} {from count at left : ℕ} {numbers : Numbers} (so : 
       let none : left ≡ 0 = omega arith in
       e ∙ sym (ap (λ (n : ℕ). numbersFrom n numbers (fieldsAt line at)) none) ∙ so .same
 
--- a byte that is no kind
-module _ {kind : ℕ} (not-plan : kind ≡ 0x50 → ⊥) (not-word : kind ≡ 0x57 → ⊥) (not-value : kind ≡ 0x4C → ⊥) (not-error : kind ≡ 0x45 → ⊥) (not-under : kind ≡ 0x55 → ⊥) where
-  pub none-counted : 0 ≡ countOf kind
-  unfolding countOf
-  none-counted = sym (simp (ne-eqb _ _ not-plan, ne-eqb _ _ not-word, ne-eqb _ _ not-value, ne-eqb _ _ not-error, ne-eqb _ _ not-under))
+-- the kinds of one notation alone
+module _ (kind : ℕ) {by : Notation} where
+  pub desk-own : by ≡ Desk → {r : Bool} → r ≡ eqb kind 0x50 → r ≡ isOwn by kind
+  unfolding isOwn
+  desk-own e is = is ∙ sym (ap (λ (by : Notation). isOwn by kind) e)
 
-  pub none-made : (numbers : Numbers) → Unreadable UnknownKind ≡ madeOf kind numbers
+  module _ (e : by ≡ Programmes) where
+    pub draws-own : kind ≡ 0x4E → true ≡ isOwn by kind
+    unfolding isOwn
+    draws-own is = sym (ap (λ (by : Notation). isOwn by kind) e ∙ simp (eq-eqb _ _ is))
+
+    pub stratum-own : (kind ≡ 0x4E → ⊥) → {r : Bool} → r ≡ eqb kind 0x53 → r ≡ isOwn by kind
+    unfolding isOwn
+    stratum-own none is = is ∙ sym (ap (λ (by : Notation). isOwn by kind) e ∙ simp (ne-eqb _ _ none))
+
+-- a byte that every notation has, and one that is left to the notation's own
+pub others-own : (by : Notation) {kind : ℕ} → (kind ≡ 0x57 → ⊥) → (kind ≡ 0x4C → ⊥) → (kind ≡ 0x45 → ⊥) → (kind ≡ 0x55 → ⊥) → {r : Bool} → r ≡ isOwn by kind → r ≡ isKind by kind
+unfolding isKind
+others-own by not-word not-value not-error not-under e = e ∙ sym (simp (ne-eqb _ _ not-word, ne-eqb _ _ not-value, ne-eqb _ _ not-error, ne-eqb _ _ not-under))
+
+-- a byte that has no number, and one that has no record
+module _ {kind : ℕ} (not-plan : kind ≡ 0x50 → ⊥) (not-draws : kind ≡ 0x4E → ⊥) where
+  pub none-counted : (kind ≡ 0x57 → ⊥) → (kind ≡ 0x4C → ⊥) → (kind ≡ 0x45 → ⊥) → (kind ≡ 0x55 → ⊥) → 0 ≡ countOf kind
+  unfolding countOf
+  none-counted not-word not-value not-error not-under =
+      sym (simp (ne-eqb _ _ not-plan, ne-eqb _ _ not-draws, ne-eqb _ _ not-word, ne-eqb _ _ not-value, ne-eqb _ _ not-error, ne-eqb _ _ not-under))
+
+  pub none-made : (kind ≡ 0x53 → ⊥) → (kind ≡ 0x57 → ⊥) → (kind ≡ 0x4C → ⊥) → (kind ≡ 0x45 → ⊥) → (kind ≡ 0x55 → ⊥) → (numbers : Numbers) → Unreadable UnknownKind ≡ madeOf kind numbers
   unfolding madeOf
-  none-made numbers = sym (simp (ne-eqb _ _ not-plan, ne-eqb _ _ not-word, ne-eqb _ _ not-value, ne-eqb _ _ not-error, ne-eqb _ _ not-under))
+  none-made not-stratum not-word not-value not-error not-under numbers =
+      sym (simp (ne-eqb _ _ not-plan, ne-eqb _ _ not-draws, ne-eqb _ _ not-stratum, ne-eqb _ _ not-word, ne-eqb _ _ not-value, ne-eqb _ _ not-error, ne-eqb _ _ not-under))
 
 -- a record by its kind and its numbers
-module _ (kind : ℕ) {count : ℕ} (many : count ≡ countOf kind) (fields : List (List ℕ)) where
-  pub no-kind : count ≡ 0 → Unreadable UnknownKind ≡ recordWith kind fields
+module _ (by : Notation) (kind : ℕ) {known : Bool} (test : known ≡ isKind by kind) (fields : List (List ℕ)) where
+  decided : (b : Bool) → known ≡ b → recordWith by kind fields ≡ pick b (withNumbers kind (numbersFrom (countOf kind) noNumbers fields)) (Unreadable UnknownKind)
   unfolding recordWith
-  no-kind e = sym (simp (eq-eqb _ _ (sym many ∙ e)))
+  decided b e = ap (λ (b : Bool). pick b (withNumbers kind (numbersFrom (countOf kind) noNumbers fields)) (Unreadable UnknownKind)) (sym test ∙ e)
 
-  module _ (some : count ≡ 0 → ⊥) {r : NumbersAnswer} (read : r ≡ numbersFrom count noNumbers fields) where
-    by-numbers : recordWith kind fields ≡ withNumbers kind r
-    unfolding recordWith
-    by-numbers = rw (ne-eqb (countOf kind) 0 (λ e. some (many ∙ e))) (ap (withNumbers kind) (ap (λ (n : ℕ). numbersFrom n noNumbers fields) (sym many) ∙ sym read))
+  pub no-kind : not known ≡ true → Unreadable UnknownKind ≡ recordWith by kind fields
+  no-kind e = sym (decided false (turned known e))
 
-    pub no-numbers : {wrong : Wrong} → r ≡ Unread wrong → Unreadable wrong ≡ recordWith kind fields
+  module _ (some : not known ≡ false) {count : ℕ} (many : count ≡ countOf kind) {r : NumbersAnswer} (read : r ≡ numbersFrom count noNumbers fields) where
+    by-numbers : recordWith by kind fields ≡ withNumbers kind r
+    by-numbers = decided true (unturned known some) ∙ ap (withNumbers kind) (ap (λ (n : ℕ). numbersFrom n noNumbers fields) (sym many) ∙ sym read)
+
+    pub no-numbers : {wrong : Wrong} → r ≡ Unread wrong → Unreadable wrong ≡ recordWith by kind fields
     unfolding withNumbers
     no-numbers e = sym (by-numbers ∙ ap (withNumbers kind) e)
 
-    pub of-numbers : {numbers : Numbers} {found : Record} → r ≡ Read numbers → found ≡ madeOf kind numbers → found ≡ recordWith kind fields
+    pub of-numbers : {numbers : Numbers} {found : Record} → r ≡ Read numbers → found ≡ madeOf kind numbers → found ≡ recordWith by kind fields
     unfolding withNumbers
     of-numbers e made = made ∙ sym (by-numbers ∙ ap (withNumbers kind) e)
 
 -- a line by its first field
-pub no-record : {line : List ℕ} {from : ℕ} → Reached Blanks line 0 from → from ≡ length line → Nothing ≡ recordIn line
+pub no-record : (by : Notation) {line : List ℕ} {from : ℕ} → Reached Blanks line 0 from → from ≡ length line → Nothing ≡ recordIn by line
 unfolding recordIn recordBy fieldsAt
-no-record {line} {from} blanks e = sym (ap recordBy (no-field blanks e))
+no-record by {line} {from} blanks e = sym (ap (recordBy by) (no-field blanks e))
 
-module _ {line : List ℕ} {from to : ℕ} (blanks : Reached Blanks line 0 from) (inside : from ≡ length line → ⊥) (field : Reached Field line from to) where
+module _ (by : Notation) {line : List ℕ} {from to : ℕ} (blanks : Reached Blanks line 0 from) (inside : from ≡ length line → ⊥) (field : Reached Field line from to) where
   room : from < length line
   room = omega (arith, inside, blanks .within)
 
-  by-field : recordIn line ≡ recordBy (take (to - from) (drop from line) ∷ fieldsAt line to)
+  by-field : recordIn by line ≡ recordBy by (take (to - from) (drop from line) ∷ fieldsAt line to)
   unfolding recordIn fieldsAt
-  by-field = ap recordBy (first-field blanks room field)
+  by-field = ap (recordBy by) (first-field blanks room field)
 
-  pub a-comment : getD line from 0 ≡ 0x23 → Nothing ≡ recordIn line
+  pub a-comment : getD line from 0 ≡ 0x23 → Nothing ≡ recordIn by line
   unfolding recordBy
   a-comment e = sym (by-field ∙ rw (field-byte blanks room field) (simp (eq-eqb _ _ e)))
 
   module _ (no-comment : getD line from 0 ≡ 0x23 → ⊥) where
-    pub long-kind : (to - from ≡ 1 → ⊥) → Unreadable UnknownKind ≡ recordIn line
+    pub long-kind : (to - from ≡ 1 → ⊥) → Unreadable UnknownKind ≡ recordIn by line
     unfolding recordBy
     long-kind h = sym (by-field ∙ rw (field-byte blanks room field, field-length blanks room field) (simp (ne-eqb _ _ no-comment, ne-eqb _ _ h)))
 
-    pub a-kind : to - from ≡ 1 → {r : Record} → r ≡ recordWith (getD line from 0) (fieldsAt line to) → r ≡ recordIn line
+    pub a-kind : to - from ≡ 1 → {r : Record} → r ≡ recordWith by (getD line from 0) (fieldsAt line to) → r ≡ recordIn by line
     unfolding recordBy
     a-kind short e = e ∙ sym (by-field ∙ rw (field-byte blanks room field, field-length blanks room field) (simp (ne-eqb _ _ no-comment, eq-eqb _ _ short)))

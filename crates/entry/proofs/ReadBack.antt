@@ -13,9 +13,12 @@ use Rattle.terms.proofs.Tests.{le-or-lt}
 use Rattle.workfile.specs.Content.{errorKind}
 use Rattle.workfile.specs.declared.FileRecord.the-variants.{Word, Value, ErrorOf}
 use Rattle.entry.specs.Text.{blank, opens, onto, fieldsOf}
-use Rattle.entry.specs.Records.{numberFrom, numberOf, numbersFrom, countOf, madeOf, withNumbers, recordWith, recordBy, recordIn}
+use Rattle.entry.specs.Records.{numberFrom, numberOf, numbersFrom, isOwn, isKind, countOf, madeOf, withNumbers, recordWith, recordBy, recordIn}
+use Rattle.entry.specs.declared.Notation.{Notation}
+use Rattle.entry.specs.declared.Notation.the-variants.{Desk, Programmes}
+use Rattle.entry.specs.declared.Wrong.the-variants.{UnknownKind, FieldTooMany}
 use Rattle.entry.specs.declared.NumberAnswer.the-variants.{Number}
-use Rattle.entry.specs.declared.Record.the-variants.{Plan, Filed}
+use Rattle.entry.specs.declared.Record.the-variants.{Plan, Stratum, Filed, Unreadable}
 use Rattle.entry.proofs.Cuts.{fields-blank, fields-on, fields-off, opens-at}
 
 -- one digit more
@@ -108,16 +111,16 @@ two-fields m n = field-first (decimal m) (decimal n) (a-field m) ∙ ap (λ (l :
 three-fields : (k m n : ℕ) → fieldsOf (decimal k ++ (32 ∷ (decimal m ++ (32 ∷ decimal n)))) ≡ decimal k ∷ decimal m ∷ decimal n ∷ []
 three-fields k m n = field-first (decimal k) (decimal m ++ (32 ∷ decimal n)) (a-field k) ∙ ap (λ (l : List (List ℕ)). decimal k ∷ l) (two-fields m n)
 
-pub word-read-back : (word : ℕ) → word < 2 ^ 64 → recordIn (0x57 ∷ 32 ∷ decimal word) ≡ Filed (Word word)
-unfolding recordIn recordBy recordWith countOf madeOf withNumbers numbersFrom blank
-word-read-back word h =
-    ap recordBy (field-first (0x57 ∷ []) (decimal word) (omega arith, (refl, tt)) ∙ ap (λ (l : List (List ℕ)). (0x57 ∷ []) ∷ l) (one-field word))
+pub word-read-back : (by : Notation) (word : ℕ) → word < 2 ^ 64 → recordIn by (0x57 ∷ 32 ∷ decimal word) ≡ Filed (Word word)
+unfolding recordIn recordBy recordWith isKind countOf madeOf withNumbers numbersFrom blank
+word-read-back by word h =
+    ap (recordBy by) (field-first (0x57 ∷ []) (decimal word) (omega arith, (refl, tt)) ∙ ap (λ (l : List (List ℕ)). (0x57 ∷ []) ∷ l) (one-field word))
     ∙ simp (number-read-back word h)
 
-pub value-read-back : (value : ℕ) → value < 2 ^ 64 → recordIn (0x4C ∷ 32 ∷ decimal value) ≡ Filed (Value value)
-unfolding recordIn recordBy recordWith countOf madeOf withNumbers numbersFrom blank
-value-read-back value h =
-    ap recordBy (field-first (0x4C ∷ []) (decimal value) (omega arith, (refl, tt)) ∙ ap (λ (l : List (List ℕ)). (0x4C ∷ []) ∷ l) (one-field value))
+pub value-read-back : (by : Notation) (value : ℕ) → value < 2 ^ 64 → recordIn by (0x4C ∷ 32 ∷ decimal value) ≡ Filed (Value value)
+unfolding recordIn recordBy recordWith isKind countOf madeOf withNumbers numbersFrom blank
+value-read-back by value h =
+    ap (recordBy by) (field-first (0x4C ∷ []) (decimal value) (omega arith, (refl, tt)) ∙ ap (λ (l : List (List ℕ)). (0x4C ∷ []) ∷ l) (one-field value))
     ∙ simp (number-read-back value h)
 
 error-fields : (kind line size : ℕ) → blank kind ≡ false → fieldsOf (kind ∷ 32 ∷ (decimal line ++ (32 ∷ decimal size))) ≡ (kind ∷ []) ∷ decimal line ∷ decimal size ∷ []
@@ -125,14 +128,28 @@ error-fields kind line size solid =
     field-first (kind ∷ []) (decimal line ++ (32 ∷ decimal size)) (omega arith, (solid, tt)) ∙ ap (λ (l : List (List ℕ)). (kind ∷ []) ∷ l) (two-fields line size)
 
 -- E and U
-pub error-read-back : (u : Bool) (line size : ℕ) → line < 2 ^ 64 → size < 2 ^ 64 → recordIn (errorKind u ∷ 32 ∷ (decimal line ++ (32 ∷ decimal size))) ≡ Filed (ErrorOf u line size)
-unfolding recordIn recordBy recordWith countOf madeOf withNumbers numbersFrom blank
-error-read-back false line size h g = ap recordBy (error-fields 0x45 line size refl) ∙ simp (number-read-back line h, number-read-back size g)
-error-read-back true line size h g = ap recordBy (error-fields 0x55 line size refl) ∙ simp (number-read-back line h, number-read-back size g)
+pub error-read-back : (by : Notation) (u : Bool) (line size : ℕ) → line < 2 ^ 64 → size < 2 ^ 64 → recordIn by (errorKind u ∷ 32 ∷ (decimal line ++ (32 ∷ decimal size))) ≡ Filed (ErrorOf u line size)
+unfolding recordIn recordBy recordWith isKind countOf madeOf withNumbers numbersFrom blank
+error-read-back by false line size h g = ap (recordBy by) (error-fields 0x45 line size refl) ∙ simp (number-read-back line h, number-read-back size g)
+error-read-back by true line size h g = ap (recordBy by) (error-fields 0x55 line size refl) ∙ simp (number-read-back line h, number-read-back size g)
 
 pub plan-read-back : (level te ae : ℕ) → level < 2 ^ 64 → te < 2 ^ 64 → ae < 2 ^ 64
-    → recordIn (0x50 ∷ 32 ∷ (decimal level ++ (32 ∷ (decimal te ++ (32 ∷ decimal ae))))) ≡ Plan level te ae
-unfolding recordIn recordBy recordWith countOf madeOf withNumbers numbersFrom blank
+    → recordIn Desk (0x50 ∷ 32 ∷ (decimal level ++ (32 ∷ (decimal te ++ (32 ∷ decimal ae))))) ≡ Plan level te ae
+unfolding recordIn recordBy recordWith isOwn isKind countOf madeOf withNumbers numbersFrom blank
 plan-read-back level te ae h g k =
-    ap recordBy (field-first (0x50 ∷ []) (decimal level ++ (32 ∷ (decimal te ++ (32 ∷ decimal ae)))) (omega arith, (refl, tt)) ∙ ap (λ (l : List (List ℕ)). (0x50 ∷ []) ∷ l) (three-fields level te ae))
+    ap (recordBy Desk) (field-first (0x50 ∷ []) (decimal level ++ (32 ∷ (decimal te ++ (32 ∷ decimal ae)))) (omega arith, (refl, tt)) ∙ ap (λ (l : List (List ℕ)). (0x50 ∷ []) ∷ l) (three-fields level te ae))
     ∙ simp (number-read-back level h, number-read-back te g, number-read-back ae k)
+
+pub draws-read-back : (draws : ℕ) → draws < 2 ^ 64 → recordIn Programmes (0x4E ∷ 32 ∷ decimal draws) ≡ Plan 0 0 draws
+unfolding recordIn recordBy recordWith isOwn isKind countOf madeOf withNumbers numbersFrom blank
+draws-read-back draws h =
+    ap (recordBy Programmes) (field-first (0x4E ∷ []) (decimal draws) (omega arith, (refl, tt)) ∙ ap (λ (l : List (List ℕ)). (0x4E ∷ []) ∷ l) (one-field draws))
+    ∙ simp (number-read-back draws h)
+
+-- a line of the fields S alone, and of S and others; P, N and S in the other notation
+module _ (field : List ℕ) (fields : List (List ℕ)) where
+  pub strata-kinds : (recordBy Programmes ((0x53 ∷ []) ∷ []) ≡ Stratum) × (recordBy Programmes ((0x53 ∷ []) ∷ field ∷ fields) ≡ Unreadable FieldTooMany)
+      × (recordBy Programmes ((0x50 ∷ []) ∷ fields) ≡ Unreadable UnknownKind) × (recordBy Desk ((0x4E ∷ []) ∷ fields) ≡ Unreadable UnknownKind)
+      × (recordBy Desk ((0x53 ∷ []) ∷ fields) ≡ Unreadable UnknownKind)
+  unfolding recordBy recordWith isOwn isKind countOf madeOf withNumbers numbersFrom
+  strata-kinds = (refl, refl, refl, refl, refl)

@@ -10,7 +10,10 @@ use lib.ListN.{length, take, drop, length-drop, drop-of-length-le}
 use lib.Seq.{drop-drop}
 use Rattle.terms.proofs.Tests.{le-or-lt}
 use Rattle.entry.specs.Text.{onto, textLines, goesOn}
-use Rattle.entry.specs.Steps.{runOf, lineOf, lineAfter, Reached}
+use Rattle.entry.specs.Records.{recordIn}
+use Rattle.entry.specs.Steps.{runOf, lineOf, lineAfter, lineAt, Reached}
+use Rattle.entry.specs.declared.Notation.{Notation}
+use Rattle.entry.specs.declared.Record.{Record}
 use Rattle.entry.specs.declared.Run.the-variants.{Line}
 
 module _ (b : ℕ) (l : List ℕ) where
@@ -60,15 +63,19 @@ lines-at text {at} inside =
     first-line (drop at text) (omega (arith, length-drop at text))
     ∙ ap (λ (l : List ℕ). lineOf text at ∷ textLines l) (drop-drop (suc n) at text ∙ ap (λ (k : ℕ). drop k text) m ∙ drop-min (suc (at + n)) text)
 
--- a run that stops at the newline gives both
+-- a run that stops at the newline gives the line and the place of the next
 module _ {text : List ℕ} {at end : ℕ} (run : Reached Line text at end) where
-  pub line-cut : take (end - at) (drop at text) ≡ lineOf text at
+  line-cut : take (end - at) (drop at text) ≡ lineOf text at
   unfolding lineOf
   line-cut = let n : end - at ≡ runOf Line (drop at text) = omega (arith, run .same) in ap (λ (k : ℕ). take k (drop at text)) n
 
-  pub line-next : min (suc end) (length text) ≡ lineAfter text at
+  line-next : min (suc end) (length text) ≡ lineAfter text at
   unfolding lineAfter
   line-next = ap (λ (k : ℕ). min (suc k) (length text)) (run .same)
+
+  pub line-found : (by : Notation) {found : Record} {next : ℕ} → found ≡ recordIn by (take (end - at) (drop at text)) → next ≡ min (suc end) (length text)
+      → record { found = found; next = next } ≡ lineAt by text at
+  line-found by its after = λ i. record { found = (its ∙ ap (recordIn by) line-cut) i; next = (after ∙ line-next) i }
 
 -- the next begins later, and within the text
 pub line-later : (text : List ℕ) {at : ℕ} → at < length text → (at < lineAfter text at) × (lineAfter text at ≤ length text)

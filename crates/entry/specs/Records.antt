@@ -1,13 +1,13 @@
 -- The record that the fields of a line write: a kind, and as many numbers as the kind has. Definitions: nothing is assumed.
 use Prim.Native.Nat.{ℕ, zero, suc, _+_, _*_, _-_, _^_}
-use mathlib.Core.Bool.{true, false}
+use mathlib.Core.Bool.{Bool, true, false}
 use mathlib.Core.List.{List, [], _∷_}
 use lib.Dec.{eqb, ltb}
 use lib.ListN.{length, getD}
 use Rattle.terms.specs.Numbers.{pick}
 use Rattle.workfile.specs.declared.FileRecord.{FileRecord}
 use Rattle.entry.specs.Text.{fieldsOf}
-use Rattle.entry.specs.declared.{Wrong.Wrong, NumberAnswer.NumberAnswer, Numbers.Numbers, NumbersAnswer.NumbersAnswer, Record.Record}
+use Rattle.entry.specs.declared.{Notation.Notation, Wrong.Wrong, NumberAnswer.NumberAnswer, Numbers.Numbers, NumbersAnswer.NumbersAnswer, Record.Record}
 
 -- a number in decimal digits, after digits that write `value`: the first byte that is no digit, or that passes 64 bits, is wrong
 unfoldable pub numberFrom : ℕ → List ℕ → NumberAnswer
@@ -49,19 +49,32 @@ unfolding numberOf numberFrom
 numbersFrom zero numbers fields = ended fields numbers
 numbersFrom (suc left) numbers fields = next fields (λ value after. numbersFrom left (oneMore numbers value) after)
 
--- how many numbers a kind has: P 3, W and L 1, E and U 2; a byte that is no kind has none
-unfoldable pub countOf : ℕ → ℕ
-countOf kind = pick (eqb kind 0x50) 3 (pick (eqb kind 0x57) 1 (pick (eqb kind 0x4C) 1 (pick (eqb kind 0x45) 2 (pick (eqb kind 0x55) 2 0))))
+-- the kinds that one notation alone has: P at the desk, N and S for a ledger in strata
+unfoldable pub isOwn : Notation → ℕ → Bool
+isOwn Notation.Desk kind = eqb kind 0x50
+isOwn Notation.Programmes kind = pick (eqb kind 0x4E) true (eqb kind 0x53)
 
--- P level TE AE; W word; L value; E line size; U line size
+-- the kinds of a notation: W, L, E and U, and its own
+unfoldable pub isKind : Notation → ℕ → Bool
+unfolding isOwn
+isKind by kind = pick (eqb kind 0x57) true (pick (eqb kind 0x4C) true (pick (eqb kind 0x45) true (pick (eqb kind 0x55) true (isOwn by kind))))
+
+-- how many numbers a kind has: P 3, N, W and L 1, E and U 2; S has none, nor has a byte that is no kind
+unfoldable pub countOf : ℕ → ℕ
+countOf kind =
+    pick (eqb kind 0x50) 3 (pick (eqb kind 0x4E) 1 (pick (eqb kind 0x57) 1 (pick (eqb kind 0x4C) 1 (pick (eqb kind 0x45) 2 (pick (eqb kind 0x55) 2 0)))))
+
+-- P level TE AE; N draws, which stand where AE does; S; W word; L value; E line size; U line size
 unfoldable pub madeOf : ℕ → Numbers → Record
 madeOf kind numbers =
     pick (eqb kind 0x50) (Record.Plan (numbers .first) (numbers .second) (numbers .third))
+    (pick (eqb kind 0x4E) (Record.Plan 0 0 (numbers .third))
+    (pick (eqb kind 0x53) Record.Stratum
     (pick (eqb kind 0x57) (Record.Filed (FileRecord.Word (numbers .third)))
     (pick (eqb kind 0x4C) (Record.Filed (FileRecord.Value (numbers .third)))
     (pick (eqb kind 0x45) (Record.Filed (FileRecord.ErrorOf false (numbers .second) (numbers .third)))
     (pick (eqb kind 0x55) (Record.Filed (FileRecord.ErrorOf true (numbers .second) (numbers .third)))
-    (Record.Unreadable Wrong.UnknownKind)))))
+    (Record.Unreadable Wrong.UnknownKind)))))))
 
 unfoldable pub withNumbers : ℕ → NumbersAnswer → Record
 unfolding madeOf
@@ -69,17 +82,17 @@ withNumbers kind (NumbersAnswer.Read numbers) = madeOf kind numbers
 withNumbers kind (NumbersAnswer.Unread wrong) = Record.Unreadable wrong
 
 -- the record of a kind, from the fields after it
-unfoldable pub recordWith : ℕ → List (List ℕ) → Record
-unfolding countOf withNumbers numbersFrom
-recordWith kind fields = pick (eqb (countOf kind) 0) (Record.Unreadable Wrong.UnknownKind) (withNumbers kind (numbersFrom (countOf kind) noNumbers fields))
+unfoldable pub recordWith : Notation → ℕ → List (List ℕ) → Record
+unfolding isKind countOf withNumbers numbersFrom
+recordWith by kind fields = pick (isKind by kind) (withNumbers kind (numbersFrom (countOf kind) noNumbers fields)) (Record.Unreadable Wrong.UnknownKind)
 
 -- A line without fields holds nothing, nor does a comment, whose first field begins with #. The kind is a field of one byte.
-unfoldable pub recordBy : List (List ℕ) → Record
+unfoldable pub recordBy : Notation → List (List ℕ) → Record
 unfolding recordWith
-recordBy [] = Record.Nothing
-recordBy (kind ∷ fields) =
-    pick (eqb (getD kind 0 0) 0x23) Record.Nothing (pick (eqb (length kind) 1) (recordWith (getD kind 0 0) fields) (Record.Unreadable Wrong.UnknownKind))
+recordBy by [] = Record.Nothing
+recordBy by (kind ∷ fields) =
+    pick (eqb (getD kind 0 0) 0x23) Record.Nothing (pick (eqb (length kind) 1) (recordWith by (getD kind 0 0) fields) (Record.Unreadable Wrong.UnknownKind))
 
-unfoldable pub recordIn : List ℕ → Record
+unfoldable pub recordIn : Notation → List ℕ → Record
 unfolding recordBy fieldsOf
-recordIn line = recordBy (fieldsOf line)
+recordIn by line = recordBy by (fieldsOf line)

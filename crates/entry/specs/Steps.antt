@@ -5,8 +5,8 @@ use mathlib.Core.List.{List, [], _∷_}
 use lib.ListN.{length, take, drop}
 use Rattle.terms.specs.Numbers.{pick}
 use Rattle.entry.specs.Text.{fieldsOf, goesOn}
-use Rattle.entry.specs.Records.{next}
-use Rattle.entry.specs.declared.{Run.Run, NumbersAnswer.NumbersAnswer, NextAnswer.NextAnswer}
+use Rattle.entry.specs.Records.{next, recordIn}
+use Rattle.entry.specs.declared.{Notation.Notation, Run.Run, Record.Record, TextLine.TextLine, NumbersAnswer.NumbersAnswer, NextAnswer.NextAnswer}
 
 -- how many bytes of a list a run goes over
 unfoldable pub runOf : Run → List ℕ → ℕ
@@ -24,6 +24,13 @@ lineOf text at = take (runOf Run.Line (drop at text)) (drop at text)
 
 unfoldable pub lineAfter : List ℕ → ℕ → ℕ
 lineAfter text at = min (suc (at + runOf Run.Line (drop at text))) (length text)
+
+-- the record of that line, and both
+abbrev pub recordAtLine : Notation → List ℕ → ℕ → Record
+recordAtLine by text at = recordIn by (lineOf text at)
+
+abbrev pub lineAt : Notation → List ℕ → ℕ → TextLine
+lineAt by text at = record { found = recordAtLine by text at; next = lineAfter text at }
 
 -- the fields from a place of a line on
 unfoldable pub fieldsAt : List ℕ → ℕ → List (List ℕ)

@@ -5,6 +5,12 @@ pub mod records; // records.rt: the record of a line
 
 use workfile::FileRecord;
 
+// The notations of a text: the desk's, and that of a ledger in strata.
+pub enum Notation {
+    Desk,
+    Programmes,
+}
+
 // What is wrong with a line; the last is wrong with the call.
 pub enum Wrong {
     UnknownKind,
@@ -16,6 +22,7 @@ pub enum Wrong {
     SecondPlan,
     LevelTooLarge,
     OutOfOrder,
+    NoStratum,
     TooManyWords,
     TooManyLines,
     TotalTooLarge,
@@ -56,10 +63,17 @@ enum NumbersAnswer {
     Unread(Wrong),
 }
 
-// What a line holds: P, or another record of the working file; a blank line and a comment hold nothing.
+// What a line holds: P or N, the S that opens a stratum, or another record of the working file; a blank line and a comment hold nothing.
 pub enum Record {
     Nothing,
     Plan(u64, u64, u64),
+    Stratum,
     Filed(FileRecord),
     Unreadable(Wrong),
+}
+
+// A line of a text: what it holds, and where the next begins.
+pub struct TextLine {
+    pub found: Record,
+    pub next: usize,
 }

@@ -1,54 +1,107 @@
 // A fault of a text in words, as one line.
+use entry::Notation;
 use entry::Wrong;
 use notation::Fault;
 use pen::Pen;
 ghost use mathlib.Core.Path.{_≡_};
+ghost use Rattle.entry.specs.declared.Notation.the-variants.{Desk, Programmes};
+ghost use Rattle.entry.specs.declared.Wrong.the-variants.{UnknownKind, NoPlan, SecondPlan, OutOfOrder};
 ghost use Rattle.pen.specs.Page.{Wrote, Printed};
 ghost use Rattle.faults.specs.Faults.{wrongWords, placeText, faultText};
 
-// A pen and the fault that it is to say.
+// A pen, the notation of the text and the fault that it is to say.
 struct Saying {
     pen: Pen,
+    by: Notation,
     wrong: Wrong,
 }
 
 impl Saying {
     // The words of the fault, which is the case that they are written for.
     fn say(self, out: &mut [u8], case: Wrong, words: &[u8]) -> Pen
-        requires { ⌜ (self .wrong ≡ case) × (now words ≡ wrongWords case) ⌝ }
-        ensures { λ r. ⌜ Wrote (now (out .entry)) (self .pen .at) (wrongWords (self .wrong)) (now (out .exit)) (r .at) ⌝ }
+        requires { ⌜ (self .wrong ≡ case) × (now words ≡ wrongWords (self .by) case) ⌝ }
+        ensures { λ r. ⌜ Wrote (now (out .entry)) (self .pen .at) (wrongWords (self .by) (self .wrong)) (now (out .exit)) (r .at) ⌝ }
     {
         let pen = self.pen;
         pen.text(out, words)
     }
-}
 
-// What is wrong.
-fn write_wrong(pen: Pen, out: &mut [u8], wrong: Wrong) -> Pen
-    ensures { λ r. ⌜ Wrote (now (out .entry)) (pen .at) (wrongWords wrong) (now (out .exit)) (r .at) ⌝ }
-{
-    let it = Saying {
-        pen: pen,
-        wrong: wrong,
-    };
-    match wrong {
-        Wrong::UnknownKind => it.say(
+    // The words of a fault that has others in each notation.
+    fn say_by(self, out: &mut [u8], case: Wrong, desk: &[u8], programmes: &[u8]) -> Pen
+        requires { ⌜ (self .wrong ≡ case) × (now desk ≡ wrongWords Desk case) × (now programmes ≡ wrongWords Programmes case) ⌝ }
+        ensures { λ r. ⌜ Wrote (now (out .entry)) (self .pen .at) (wrongWords (self .by) (self .wrong)) (now (out .exit)) (r .at) ⌝ }
+    {
+        let by = self.by;
+        match by {
+            Notation::Desk => self.say(out, case, desk),
+            Notation::Programmes => self.say(out, case, programmes),
+        }
+    }
+
+    fn unknown_kind(self, out: &mut [u8]) -> Pen
+        requires { ⌜ self .wrong ≡ UnknownKind ⌝ }
+        ensures { λ r. ⌜ Wrote (now (out .entry)) (self .pen .at) (wrongWords (self .by) (self .wrong)) (now (out .exit)) (r .at) ⌝ }
+    {
+        self.say_by(
             out,
             Wrong::UnknownKind,
             b"the line begins with none of P, W, L, E, U and #",
-        ),
+            b"the line begins with none of N, S, W, L, E, U and #",
+        )
+    }
+
+    fn no_plan(self, out: &mut [u8]) -> Pen
+        requires { ⌜ self .wrong ≡ NoPlan ⌝ }
+        ensures { λ r. ⌜ Wrote (now (out .entry)) (self .pen .at) (wrongWords (self .by) (self .wrong)) (now (out .exit)) (r .at) ⌝ }
+    {
+        self.say_by(
+            out,
+            Wrong::NoPlan,
+            b"P has to come first",
+            b"N has to come first",
+        )
+    }
+
+    fn second_plan(self, out: &mut [u8]) -> Pen
+        requires { ⌜ self .wrong ≡ SecondPlan ⌝ }
+        ensures { λ r. ⌜ Wrote (now (out .entry)) (self .pen .at) (wrongWords (self .by) (self .wrong)) (now (out .exit)) (r .at) ⌝ }
+    {
+        self.say_by(out, Wrong::SecondPlan, b"a second P", b"a second N")
+    }
+
+    fn out_of_order(self, out: &mut [u8]) -> Pen
+        requires { ⌜ self .wrong ≡ OutOfOrder ⌝ }
+        ensures { λ r. ⌜ Wrote (now (out .entry)) (self .pen .at) (wrongWords (self .by) (self .wrong)) (now (out .exit)) (r .at) ⌝ }
+    {
+        self.say_by(
+            out,
+            Wrong::OutOfOrder,
+            b"records come in the order P, W, L, then E and U",
+            b"records come in order N, W, S and L, then E and U",
+        )
+    }
+}
+
+// What is wrong.
+fn write_wrong(pen: Pen, out: &mut [u8], by: Notation, wrong: Wrong) -> Pen
+    ensures { λ r. ⌜ Wrote (now (out .entry)) (pen .at) (wrongWords by wrong) (now (out .exit)) (r .at) ⌝ }
+{
+    let it = Saying {
+        pen: pen,
+        by: by,
+        wrong: wrong,
+    };
+    match wrong {
+        Wrong::UnknownKind => it.unknown_kind(out),
         Wrong::NumberMissing => it.say(out, Wrong::NumberMissing, b"a number is missing"),
         Wrong::NotNumber => it.say(out, Wrong::NotNumber, b"a number has decimal digits only"),
         Wrong::NumberTooLarge => it.say(out, Wrong::NumberTooLarge, b"a number passes 64 bits"),
         Wrong::FieldTooMany => it.say(out, Wrong::FieldTooMany, b"a field too many"),
-        Wrong::NoPlan => it.say(out, Wrong::NoPlan, b"P has to come first"),
-        Wrong::SecondPlan => it.say(out, Wrong::SecondPlan, b"a second P"),
+        Wrong::NoPlan => it.no_plan(out),
+        Wrong::SecondPlan => it.second_plan(out),
         Wrong::LevelTooLarge => it.say(out, Wrong::LevelTooLarge, b"the level is above 255"),
-        Wrong::OutOfOrder => it.say(
-            out,
-            Wrong::OutOfOrder,
-            b"records come in the order P, W, L, then E and U",
-        ),
+        Wrong::OutOfOrder => it.out_of_order(out),
+        Wrong::NoStratum => it.say(out, Wrong::NoStratum, b"S has to come before L"),
         Wrong::TooManyWords => it.say(out, Wrong::TooManyWords, b"more than 64 words"),
         Wrong::TooManyLines => it.say(out, Wrong::TooManyLines, b"more than 2048 lines"),
         Wrong::TotalTooLarge => it.say(out, Wrong::TotalTooLarge, b"the sum of L passes 64 bits"),
@@ -69,20 +122,20 @@ fn write_place(pen: Pen, out: &mut [u8], line: u64) -> Pen
     numbered.text(out, b": ")
 }
 
-fn write_line(pen: Pen, out: &mut [u8], fault: Fault) -> Pen
-    ensures { λ r. ⌜ Wrote (now (out .entry)) (pen .at) (faultText fault) (now (out .exit)) (r .at) ⌝ }
+fn write_line(pen: Pen, out: &mut [u8], fault: Fault, by: Notation) -> Pen
+    ensures { λ r. ⌜ Wrote (now (out .entry)) (pen .at) (faultText by fault) (now (out .exit)) (r .at) ⌝ }
 {
     let wrong = fault.wrong;
     let parted = write_place(pen, out, fault.line as u64);
-    let said = write_wrong(parted, out, wrong);
+    let said = write_wrong(parted, out, by, wrong);
     said.byte(out, 10)
 }
 
-// The line of a fault at the start of a page, which always has room for it; answers its length.
-pub fn print_fault(fault: Fault, page: &mut [u8; 80]) -> usize
-    ensures { λ r. ⌜ Printed (faultText fault) (now (page .entry)) r (now (page .exit)) ⌝ }
+// The line of a fault of a text in a notation, at the start of a page, which always has room for it; answers its length.
+pub fn print_fault(fault: Fault, by: Notation, page: &mut [u8; 80]) -> usize
+    ensures { λ r. ⌜ Printed (faultText by fault) (now (page .entry)) r (now (page .exit)) ⌝ }
 {
     let start = Pen { at: 0 };
-    let end = write_line(start, page, fault);
+    let end = write_line(start, page, fault, by);
     end.at
 }

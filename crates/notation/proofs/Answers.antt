@@ -12,6 +12,7 @@ use Rattle.terms.proofs.Tests.{by-test}
 use Rattle.workfile.specs.Content.{Content, mostWords, mostFileLines}
 use Rattle.workfile.specs.Promises.{Rooms, counted}
 use Rattle.workfile.specs.declared.Contents.{Contents}
+use Rattle.entry.specs.declared.Notation.{Notation}
 use Rattle.entry.specs.declared.Wrong.{Wrong}
 use Rattle.entry.specs.declared.Wrong.the-variants.{NoRoom}
 use Rattle.entry.proofs.Runs.{turned, unturned}
@@ -37,7 +38,8 @@ pub was-said : (o : Reading Content) {k : Contents} → readingCounts o ≡ says
 was-said (says c) e = (c, refl, cc)
 was-said (faulty wrong line) e = clash (cc)
 
-was-faulty : (o : Reading Content) {wrong : Wrong} {line : ℕ} → readingCounts o ≡ faulty wrong line → o ≡ faulty wrong line
+-- and a fault
+pub was-faulty : (o : Reading Content) {wrong : Wrong} {line : ℕ} → readingCounts o ≡ faulty wrong line → o ≡ faulty wrong line
 was-faulty (says c) e = clash (cc)
 was-faulty (faulty other place) {wrong} {line} e =
     let w : other ≡ wrong = cc in
@@ -48,9 +50,9 @@ was-faulty (faulty other place) {wrong} {line} e =
 pub rooms : {w v : List ℕ} {e : List ℤ} {enough : Bool} → enough ≡ roomFor (length w) (length v) (length e) → not enough ≡ false → Rooms w v e
 rooms {w} {v} {e} {enough} test room = has-rooms w v e (sym test ∙ unturned enough room)
 
-module _ (text w v : List ℕ) (e : List ℤ) {enough : Bool} (test : enough ≡ roomFor (length w) (length v) (length e)) where
+module _ (by : Notation) (text w v : List ℕ) (e : List ℤ) {enough : Bool} (test : enough ≡ roomFor (length w) (length v) (length e)) where
   -- a fault leaves the buffers
-  left-alone : {wrong : Wrong} {line : ℕ} → parseOf text (length w) (length v) (length e) ≡ faulty wrong line → ParsePromise text w v e (Faulty (record { line = line; wrong = wrong })) w v e
+  left-alone : {wrong : Wrong} {line : ℕ} → parseOf by text (length w) (length v) (length e) ≡ faulty wrong line → ParsePromise by text w v e (Faulty (record { line = line; wrong = wrong })) w v e
   left-alone q =
       record {
         answer = sym (ap readingCounts q);
@@ -59,24 +61,24 @@ module _ (text w v : List ℕ) (e : List ℤ) {enough : Bool} (test : enough ≡
         errors-left = sym (ap (leftOver (λ c. c .errors) e) q);
       }
 
-  decided : (b : Bool) → enough ≡ b → parseOf text (length w) (length v) (length e) ≡ pick b (textOf text) (faulty NoRoom 0)
+  decided : (b : Bool) → enough ≡ b → parseOf by text (length w) (length v) (length e) ≡ pick b (textOf by text) (faulty NoRoom 0)
   unfolding parseOf
-  decided b q = ap (λ (b : Bool). pick b (textOf text) (faulty NoRoom 0)) (sym test ∙ q)
+  decided b q = ap (λ (b : Bool). pick b (textOf by text) (faulty NoRoom 0)) (sym test ∙ q)
 
-  pub no-room : not enough ≡ true → ParsePromise text w v e (Faulty (record { line = 0; wrong = NoRoom })) w v e
+  pub no-room : not enough ≡ true → ParsePromise by text w v e (Faulty (record { line = 0; wrong = NoRoom })) w v e
   no-room q = left-alone (decided false (turned enough q))
 
   module _ (room : not enough ≡ false) where
-    roomed : parseOf text (length w) (length v) (length e) ≡ textOf text
+    roomed : parseOf by text (length w) (length v) (length e) ≡ textOf by text
     roomed = decided true (unturned enough room)
 
-    module _ {r : ParseAnswer} (first : parseSays r ≡ readingCounts (textOf text)) where
-      pub found-faulty : {fault : Fault} → r ≡ Faulty fault → ParsePromise text w v e (Faulty fault) w v e
-      found-faulty {fault} q = left-alone (roomed ∙ was-faulty (textOf text) (sym first ∙ ap parseSays q))
+    module _ {r : ParseAnswer} (first : parseSays r ≡ readingCounts (textOf by text)) where
+      pub found-faulty : {fault : Fault} → r ≡ Faulty fault → ParsePromise by text w v e (Faulty fault) w v e
+      found-faulty {fault} q = left-alone (roomed ∙ was-faulty (textOf by text) (sym first ∙ ap parseSays q))
 
-      pub found-whole : {contents : Contents} → r ≡ Parsed contents → {w′ v′ : List ℕ} {e′ : List ℤ} {r′ : ParseAnswer} → OnePass text w v e r′ w′ v′ e′ → ParsePromise text w v e r′ w′ v′ e′
+      pub found-whole : {contents : Contents} → r ≡ Parsed contents → {w′ v′ : List ℕ} {e′ : List ℤ} {r′ : ParseAnswer} → OnePass by text w v e r′ w′ v′ e′ → ParsePromise by text w v e r′ w′ v′ e′
       found-whole q second =
-          let said = was-said (textOf text) (sym first ∙ ap parseSays q) in
+          let said = was-said (textOf by text) (sym first ∙ ap parseSays q) in
           let kept = second .kept (said .0) (said .1) in
           let same = sym (said .1) ∙ sym roomed in
           record {

@@ -15,6 +15,7 @@ use Rattle.workfile.specs.declared.FileRecord.the-variants.{End, Nothing}
 use Rattle.workfile.proofs.Growing.{SoFar}
 use Rattle.store.specs.Storing.{HasPlace, Put}
 use Rattle.store.proofs.Holding.{Holds, holds-none, lengths, has-place, holds-more}
+use Rattle.entry.specs.declared.Notation.{Notation}
 use Rattle.entry.specs.declared.Wrong.{Wrong}
 use Rattle.entry.specs.declared.Record.{Record}
 use Rattle.entry.specs.declared.Record.the-variants as line
@@ -58,23 +59,24 @@ module _ {c : Content} {t : Tally} {ws vs w v w′ v′ : List ℕ} {es e e′ :
   unfolding grown
   held-line line.Nothing next took rooms put = other-line c (next .tally) (tally-of took) (took .so-far) refl refl refl put
   held-line (line.Plan level te ae) next took rooms put = other-line (withPlan c (planWith level te ae)) (next .tally) (tally-of took) (took .so-far) refl refl refl put
+  held-line line.Stratum next took rooms put = other-line c (next .tally) (tally-of took) (took .so-far) refl refl refl put
   held-line (line.Filed r) next took rooms put =
       let more = holds-more held rooms (subst (λ (t : Tally). Rule t r) (held .tally) (took .rule-kept r refl)) put in
       record { tally = tally-of took; so-far = took .so-far; words = more .words; values = more .values; errors = more .errors }
   held-line (line.Unreadable wrong) next took rooms put = other-line c (next .tally) (tally-of took) (took .so-far) refl refl refl put
 
 -- before a line
-pub record Filling (text : List ℕ) (at line : ℕ) (s : State) (ws vs : List ℕ) (es : List ℤ) (w v : List ℕ) (e : List ℤ) : Type 0 where
-  pub stands : Stands text at line s
+pub record Filling (by : Notation) (text : List ℕ) (at line : ℕ) (s : State) (ws vs : List ℕ) (es : List ℤ) (w v : List ℕ) (e : List ℤ) : Type 0 where
+  pub stands : Stands by text at line s
   pub rooms : Rooms ws vs es
   pub held : Holds (stands .read) (s .tally) ws vs es w v e
 
-pub begins : {text : List ℕ} {s : State} {ws vs : List ℕ} {es : List ℤ} → s ≡ stateOf false emptyContent → Rooms ws vs es → Filling text 0 1 s ws vs es ws vs es
+pub begins : {by : Notation} {text : List ℕ} {s : State} {ws vs : List ℕ} {es : List ℤ} → s ≡ stateOf false emptyContent → Rooms ws vs es → Filling by text 0 1 s ws vs es ws vs es
 unfolding starts
-begins {text} {s} {ws} {vs} {es} e rooms =
+begins {by} {text} {s} {ws} {vs} {es} e rooms =
     record { stands = starts e; rooms = rooms; held = subst (λ (u : State). Holds emptyContent (u .tally) ws vs es ws vs es) (sym e) holds-none }
 
-module _ {text : List ℕ} {at line : ℕ} {s : State} {ws vs w v : List ℕ} {es e : List ℤ} (fill : Filling text at line s ws vs es w v e) where
+module _ {by : Notation} {text : List ℕ} {at line : ℕ} {s : State} {ws vs w v : List ℕ} {es e : List ℤ} (fill : Filling by text at line s ws vs es w v e) where
   pub words-long : length w ≡ length ws
   words-long = lengths (fill .held) (fill .rooms) .words
 
@@ -95,8 +97,8 @@ module _ {text : List ℕ} {at line : ℕ} {s : State} {ws vs w v : List ℕ} {e
   errors-same e′ h = h ∙ errors-long
 
   -- at a line
-  module _ (inside : at < length text) {r : Turn} (turn : r ≡ turnOf text at s) where
-    pub stopped-filling : {wrong : Wrong} → r ≡ Stop wrong → OnePass text ws vs es (Faulty (record { line = line; wrong = wrong })) w v e
+  module _ (inside : at < length text) {r : Turn} (turn : r ≡ turnOf by text at s) where
+    pub stopped-filling : {wrong : Wrong} → r ≡ Stop wrong → OnePass by text ws vs es (Faulty (record { line = line; wrong = wrong })) w v e
     stopped-filling e =
         let bad = fault-here (fill .stands) inside turn e in
         record { answer = sym (ap readingCounts bad); kept = λ c f. clash (cc) }
@@ -107,7 +109,7 @@ module _ {text : List ℕ} {at line : ℕ} {s : State} {ws vs w v : List ℕ} {e
           let took = taken-here (fill .stands) inside turn on in
           record { place = λ r is. has-place (fill .held) (fill .rooms) (subst (λ (t : Tally). Rule t r) (fill .held .tally) (took .rule-kept r is)) }
 
-      pub fills : {w′ v′ : List ℕ} {e′ : List ℤ} → Put (s .tally) (filed found) w v e w′ v′ e′ → Filling text to (line + 1) next ws vs es w′ v′ e′
+      pub fills : {w′ v′ : List ℕ} {e′ : List ℤ} → Put (s .tally) (filed found) w v e w′ v′ e′ → Filling by text to (line + 1) next ws vs es w′ v′ e′
       unfolding onward
       fills put =
           record {
@@ -121,7 +123,7 @@ module _ {text : List ℕ} {at line : ℕ} {s : State} {ws vs w v : List ℕ} {e
   end-place = has-place (fill .held) (fill .rooms) (refl, refl)
 
   pub filled : length text ≤ at → {r : ParseAnswer} {w′ v′ : List ℕ} {e′ : List ℤ} → Put (s .tally) (End (s .tally .lines) (s .tally .sum)) w v e w′ v′ e′ → parseSays r ≡ endOf s line
-      → OnePass text ws vs es r w′ v′ e′
+      → OnePass by text ws vs es r w′ v′ e′
   filled h {r} {w′} {v′} {e′} put a =
       let c = fill .stands .read in
       let laid = subst (λ (t : Tally). Holds (grow c (End (t .lines) (t .sum))) (tallied (s .tally) (End (s .tally .lines) (s .tally .sum))) ws vs es w′ v′ e′) (sym (fill .held .tally)) (holds-more (fill .held) (fill .rooms) (refl, refl) put) in

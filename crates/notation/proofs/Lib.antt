@@ -4,4 +4,5 @@ pub mod Passing
 pub mod Filling
 pub mod Answers
 pub mod Laws
+pub mod Held
 pub mod Worked

@@ -25,7 +25,7 @@ use Rattle.entry.specs.declared.Wrong.the-variants.{UnknownKind, NoPlan, Second
 use Rattle.entry.specs.declared.Record.{Record}
 use Rattle.entry.specs.declared.Record.the-variants as line
 use Rattle.entry.proofs.Runs.{turned, unturned}
-use Rattle.notation.specs.Contents.{brokenRule, takenPlan, ruledBy, takenRecord, takenOf, withPlan, grown, stateOf}
+use Rattle.notation.specs.Contents.{brokenRule, takenPlan, takenStratum, ruledBy, takenRecord, takenOf, withPlan, grown, stateOf}
 use Rattle.notation.specs.declared.State.{State}
 use Rattle.notation.specs.declared.Taken.{Taken}
 use Rattle.notation.specs.declared.Taken.the-variants.{With, Not}
@@ -56,6 +56,16 @@ module _ (s : State) (level te ae : ℕ) where
   pub first-plan : s .planned ≡ false → level ≤ 255 → With (record { planned = true; plan = planWith level te ae; tally = s .tally }) ≡ takenPlan s level te ae
   unfolding takenPlan
   first-plan p h = rw (p, le-ltb 255 level h)
+
+-- S, by its test
+module _ (s : State) where
+  pub stratum-first : s .planned ≡ false → {t : Taken} → t ≡ Not NoPlan → t ≡ takenStratum s
+  unfolding takenStratum
+  stratum-first p e = rw p e
+
+  pub stratum-after : s .planned ≡ true → With s ≡ takenStratum s
+  unfolding takenStratum
+  stratum-after p = rw p
 
 -- any other record, by its judgement
 module _ (s : State) (r : FileRecord) where
@@ -91,6 +101,10 @@ module _ (s : State) {found : Record} where
   unfolding takenOf
   held-plan is e = e ∙ sym (ap (takenOf s) is)
 
+  pub held-stratum : found ≡ line.Stratum → {t : Taken} → t ≡ takenStratum s → t ≡ takenOf s found
+  unfolding takenOf
+  held-stratum is e = e ∙ sym (ap (takenOf s) is)
+
   pub held-record : {r : FileRecord} → found ≡ line.Filed r → {t : Taken} → t ≡ takenRecord s r → t ≡ takenOf s found
   unfolding takenOf
   held-record is e = e ∙ sym (ap (takenOf s) is)
@@ -122,6 +136,20 @@ took-plan planned c level te ae next so =
     Takes : Taken → Type 0
     Takes t = t ≡ With next → Took c (line.Plan level te ae) next
 
+-- what leaves the content as it is
+took-none : (planned : Bool) (c : Content) (found : Record) (next : State) → SoFar c → grown c found ≡ c → ((r : FileRecord) → found ≡ line.Filed r → ⊥) → stateOf planned c ≡ next → Took c found next
+took-none planned c found next so same none e =
+    record {
+      state = ap (stateOf (next .planned)) same ∙ as-state planned c e;
+      so-far = subst SoFar (sym same) so;
+      rule-kept = λ r f. absurd (none r f);
+    }
+
+took-stratum : (planned : Bool) (c : Content) (next : State) → SoFar c → takenStratum (stateOf planned c) ≡ With next → Took c line.Stratum next
+unfolding takenStratum grown
+took-stratum planned c next so =
+    by-test (λ (t : Taken). t ≡ With next → Took c line.Stratum next) planned (λ _ e. took-none planned c line.Stratum next so refl (λ r f. clash (cc)) (cc)) (λ _ e. clash (cc))
+
 -- another record
 took-record : (planned : Bool) (c : Content) (r : FileRecord) (next : State) → SoFar c → takenRecord (stateOf planned c) r ≡ With next → Took c (line.Filed r) next
 unfolding takenRecord grown
@@ -143,7 +171,8 @@ took-record planned c r next so = by-test (λ (t : Taken). t ≡ With next → T
 
 pub took : (planned : Bool) (c : Content) (found : Record) (next : State) → SoFar c → takenOf (stateOf planned c) found ≡ With next → Took c found next
 unfolding takenOf grown
-took planned c line.Nothing next so e = let same : stateOf planned c ≡ next = cc in record { state = as-state planned c same; so-far = so; rule-kept = λ r f. clash (cc) }
+took planned c line.Nothing next so e = took-none planned c line.Nothing next so refl (λ r f. clash (cc)) (cc)
 took planned c (line.Plan level te ae) next so e = took-plan planned c level te ae next so e
+took planned c line.Stratum next so e = took-stratum planned c next so e
 took planned c (line.Filed r) next so e = took-record planned c r next so e
 took planned c (line.Unreadable wrong) next so e = clash (cc)

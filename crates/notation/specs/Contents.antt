@@ -12,7 +12,7 @@ use Rattle.records.specs.Judging.{judged}
 use Rattle.records.specs.declared.Judged.{Judged}
 use Rattle.entry.specs.Text.{textLines}
 use Rattle.entry.specs.Records.{recordIn}
-use Rattle.entry.specs.declared.{Wrong.Wrong, Record.Record}
+use Rattle.entry.specs.declared.{Notation.Notation, Wrong.Wrong, Record.Record}
 use Rattle.notation.specs.declared.{State.State, Taken.Taken}
 
 -- what a text says, or what is wrong in it and at which line
@@ -29,11 +29,15 @@ brokenRule t (FileRecord.ErrorOf u l n) =
 brokenRule t (FileRecord.End n s) = Wrong.UnknownKind
 brokenRule t FileRecord.Nothing = Wrong.UnknownKind
 
--- P once, with a level of one byte
+-- P once, with a level of one byte; N says 0 for the level
 unfoldable pub takenPlan : State → ℕ → ℕ → ℕ → Taken
 takenPlan s level te ae =
     pick (s .planned) (Taken.Not Wrong.SecondPlan)
     (pick (ltb 255 level) (Taken.Not Wrong.LevelTooLarge) (Taken.With (record { planned = true; plan = planWith level te ae; tally = s .tally })))
+
+-- S after N: a record of its own, which no rule of the file knows
+unfoldable pub takenStratum : State → Taken
+takenStratum s = pick (s .planned) (Taken.With s) (Taken.Not Wrong.NoPlan)
 
 -- any other record after P, as the file's rules judge it
 abbrev pub ruledBy : State → FileRecord → Judged → Taken
@@ -46,9 +50,10 @@ unfolding judged brokenRule
 takenRecord s r = pick (s .planned) (ruledBy s r (judged (s .tally) r)) (Taken.Not Wrong.NoPlan)
 
 unfoldable pub takenOf : State → Record → Taken
-unfolding takenPlan takenRecord
+unfolding takenPlan takenStratum takenRecord
 takenOf s Record.Nothing = Taken.With s
 takenOf s (Record.Plan level te ae) = takenPlan s level te ae
+takenOf s Record.Stratum = takenStratum s
 takenOf s (Record.Filed r) = takenRecord s r
 takenOf s (Record.Unreadable wrong) = Taken.Not wrong
 
@@ -60,6 +65,7 @@ unfoldable pub grown : Content → Record → Content
 unfolding grow
 grown c Record.Nothing = c
 grown c (Record.Plan level te ae) = withPlan c (planWith level te ae)
+grown c Record.Stratum = c
 grown c (Record.Filed r) = grow c r
 grown c (Record.Unreadable wrong) = c
 
@@ -74,14 +80,14 @@ abbrev pub goOn : Taken → ℕ → (Bool → Reading Content) → Reading Conte
 goOn (Taken.With s) line rest = rest (s .planned)
 goOn (Taken.Not wrong) line rest = faulty wrong line
 
--- Line by line, from a line's number, whether P was among those before it, and their content. The text ends with the line after its last, and
+-- Line by line in a notation, from a line's number, whether P was among those before it, and their content. The text ends with the line after its last, and
 -- its end is the Z that its counts imply: lines without E and U have error 0.
-unfoldable pub readLines : ℕ → Bool → Content → List (List ℕ) → Reading Content
+unfoldable pub readLines : Notation → ℕ → Bool → Content → List (List ℕ) → Reading Content
 unfolding grow takenOf grown recordIn
-readLines line planned c [] = pick planned (says (grow c (closing c))) (faulty Wrong.NoPlan line)
-readLines line planned c (bytes ∷ later) =
-    goOn (takenOf (stateOf planned c) (recordIn bytes)) line (λ planned. readLines (suc line) planned (grown c (recordIn bytes)) later)
+readLines by line planned c [] = pick planned (says (grow c (closing c))) (faulty Wrong.NoPlan line)
+readLines by line planned c (bytes ∷ later) =
+    goOn (takenOf (stateOf planned c) (recordIn by bytes)) line (λ planned. readLines by (suc line) planned (grown c (recordIn by bytes)) later)
 
-unfoldable pub textOf : List ℕ → Reading Content
+unfoldable pub textOf : Notation → List ℕ → Reading Content
 unfolding readLines textLines
-textOf text = readLines 1 false emptyContent (textLines text)
+textOf by text = readLines by 1 false emptyContent (textLines text)

@@ -10,7 +10,7 @@ use Rattle.terms.specs.Numbers.{pick}
 use Rattle.workfile.specs.Content.{Content, mostWords, mostFileLines}
 use Rattle.workfile.specs.Promises.{over, counted}
 use Rattle.workfile.specs.declared.Contents.{Contents}
-use Rattle.entry.specs.declared.Wrong.{Wrong}
+use Rattle.entry.specs.declared.{Notation.Notation, Wrong.Wrong}
 use Rattle.notation.specs.Contents.{Reading, says, faulty, textOf}
 use Rattle.notation.specs.declared.ParseAnswer.{ParseAnswer}
 
@@ -33,13 +33,13 @@ unfoldable pub roomFor : ℕ → ℕ → ℕ → Bool
 roomFor words values errors = pick (ltb words mostWords) false (pick (ltb values mostFileLines) false (leb mostFileLines errors))
 
 -- What a text says to a caller with room for so many words, values and errors. No room is a fault of no line.
-unfoldable pub parseOf : List ℕ → ℕ → ℕ → ℕ → Reading Content
+unfoldable pub parseOf : Notation → List ℕ → ℕ → ℕ → ℕ → Reading Content
 unfolding roomFor textOf
-parseOf text words values errors = pick (roomFor words values errors) (textOf text) (faulty Wrong.NoRoom 0)
+parseOf by text words values errors = pick (roomFor words values errors) (textOf by text) (faulty Wrong.NoRoom 0)
 
 -- the parser's promise: words, values and errors are the buffers before, words′, values′ and errors′ after
-pub record ParsePromise (text words values : List ℕ) (errors : List ℤ) (r : ParseAnswer) (words′ values′ : List ℕ) (errors′ : List ℤ) : Type 0 where
-  pub answer : parseSays r ≡ readingCounts (parseOf text (length words) (length values) (length errors))
-  pub words-left : words′ ≡ leftOver (λ c. c .words) words (parseOf text (length words) (length values) (length errors))
-  pub values-left : values′ ≡ leftOver (λ c. c .values) values (parseOf text (length words) (length values) (length errors))
-  pub errors-left : errors′ ≡ leftOver (λ c. c .errors) errors (parseOf text (length words) (length values) (length errors))
+pub record ParsePromise (by : Notation) (text words values : List ℕ) (errors : List ℤ) (r : ParseAnswer) (words′ values′ : List ℕ) (errors′ : List ℤ) : Type 0 where
+  pub answer : parseSays r ≡ readingCounts (parseOf by text (length words) (length values) (length errors))
+  pub words-left : words′ ≡ leftOver (λ c. c .words) words (parseOf by text (length words) (length values) (length errors))
+  pub values-left : values′ ≡ leftOver (λ c. c .values) values (parseOf by text (length words) (length values) (length errors))
+  pub errors-left : errors′ ≡ leftOver (λ c. c .errors) errors (parseOf by text (length words) (length values) (length errors))

@@ -1,8 +1,8 @@
-// The text from which a working file is made: one record a line, in the practice sheet's own notation.
+// The text from which a working file is made: one record a line, in the practice sheet's own notation or in that of a ledger in strata.
 mod lines; // lines.rt: what a line adds, by the rules of the working file
 
+use entry::Notation;
 use entry::Record;
-use entry::Run;
 use entry::Wrong;
 use workfile::Contents;
 use workfile::FileRecord;
@@ -10,7 +10,7 @@ use workfile::Plan;
 use workfile::Tally;
 ghost use mathlib.Core.Path.{_≡_};
 ghost use mathlib.Core.Bool.{false};
-ghost use Prim.Native.Nat.{suc, _≤_, _<_, min};
+ghost use Prim.Native.Nat.{_<_};
 ghost use lib.ListN.{length};
 ghost use Rattle.workfile.specs.Promises.{Rooms};
 ghost use Rattle.notation.specs.Contents.{emptyContent, stateOf, textOf};
@@ -32,7 +32,7 @@ pub enum ParseAnswer {
     Faulty(Fault),
 }
 
-// What the lines so far say: whether P was among them, its plan, and the counts of the records after it.
+// What the lines so far say: whether P or N was among them, its plan, and the counts of the records after it.
 struct State {
     planned: bool,
     plan: Plan,
@@ -51,24 +51,16 @@ enum Turn {
     Stop(Wrong),
 }
 
-// Where the line after one that ends at `end` begins.
-fn line_after(text: &[u8], end: usize) -> usize
-    requires { ⌜ end ≤ length (now text) ⌝ }
-    ensures { λ r. ⌜ r ≡ min (suc end) (length (now (text .entry))) ⌝ }
-{
-    if end < text.len() { end + 1 } else { end }
-}
-
 // The line that begins at `at`.
-fn read_line(text: &[u8], at: usize, state: State) -> Turn
+fn read_line(text: &[u8], by: Notation, at: usize, state: State) -> Turn
     requires { ⌜ at < length (now text) ⌝ }
-    ensures { λ r. ⌜ r ≡ turnOf (now (text .entry)) at state ⌝ }
+    ensures { λ r. ⌜ r ≡ turnOf by (now (text .entry)) at state ⌝ }
 {
-    let end = entry::fields::reach(text, at, Run::Line);
-    let found = entry::records::record_of(&text[at..end]);
+    let line = entry::records::line_at(text, at, by);
+    let found = line.found;
     match lines::take(state, found) {
         Taken::Not(wrong) => Turn::Stop(wrong),
-        Taken::With(next) => Turn::On(found, next, line_after(text, end)),
+        Taken::With(next) => Turn::On(found, next, line.next),
     }
 }
 
@@ -116,14 +108,14 @@ fn answer_at_end(s: State, line: usize) -> ParseAnswer
 }
 
 // The first pass only judges.
-fn check(text: &[u8]) -> ParseAnswer
-    ensures { λ r. ⌜ parseSays r ≡ readingCounts (textOf (now (text .entry))) ⌝ }
+fn check(text: &[u8], by: Notation) -> ParseAnswer
+    ensures { λ r. ⌜ parseSays r ≡ readingCounts (textOf by (now (text .entry))) ⌝ }
 {
     let mut at: usize = 0;
     let mut line: usize = FIRST_LINE;
     let mut state = first_state();
     while at < text.len() {
-        match read_line(text, at, state) {
+        match read_line(text, by, at, state) {
             Turn::Stop(wrong) => {
                 return ParseAnswer::Faulty(Fault {
                     line: line,
@@ -149,20 +141,27 @@ fn keep(found: Record, tally: Tally, words: &mut [u64], values: &mut [u64], erro
         Record::Filed(record) => store::put_record(record, tally, words, values, errors),
         Record::Nothing => {}
         Record::Plan(_, _, _) => {}
+        Record::Stratum => {}
         Record::Unreadable(_) => {}
     }
 }
 
 // The second pass stores. Its end is the Z that the counts imply: lines after the last E or U get error 0.
-fn fill(text: &[u8], words: &mut [u64], values: &mut [u64], errors: &mut [i64]) -> ParseAnswer
+fn fill(
+    text: &[u8],
+    by: Notation,
+    words: &mut [u64],
+    values: &mut [u64],
+    errors: &mut [i64],
+) -> ParseAnswer
     requires { ⌜ Rooms (now words) (now values) (now errors) ⌝ }
-    ensures { λ r. ⌜ OnePass (now (text .entry)) (now (words .entry)) (now (values .entry)) (now (errors .entry)) r (now (words .exit)) (now (values .exit)) (now (errors .exit)) ⌝ }
+    ensures { λ r. ⌜ OnePass by (now (text .entry)) (now (words .entry)) (now (values .entry)) (now (errors .entry)) r (now (words .exit)) (now (values .exit)) (now (errors .exit)) ⌝ }
 {
     let mut at: usize = 0;
     let mut line: usize = FIRST_LINE;
     let mut state = first_state();
     while at < text.len() {
-        match read_line(text, at, state) {
+        match read_line(text, by, at, state) {
             Turn::Stop(wrong) => {
                 return ParseAnswer::Faulty(Fault {
                     line: line,
@@ -196,8 +195,14 @@ fn has_room(words: usize, values: usize, errors: usize) -> bool
 }
 
 // The contents of a text, or its first fault; a faulty text changes nothing.
-pub fn parse(text: &[u8], words: &mut [u64], values: &mut [u64], errors: &mut [i64]) -> ParseAnswer
-    ensures { λ r. ⌜ ParsePromise (now (text .entry)) (now (words .entry)) (now (values .entry)) (now (errors .entry)) r (now (words .exit)) (now (values .exit)) (now (errors .exit)) ⌝ }
+pub fn parse(
+    text: &[u8],
+    by: Notation,
+    words: &mut [u64],
+    values: &mut [u64],
+    errors: &mut [i64],
+) -> ParseAnswer
+    ensures { λ r. ⌜ ParsePromise by (now (text .entry)) (now (words .entry)) (now (values .entry)) (now (errors .entry)) r (now (words .exit)) (now (values .exit)) (now (errors .exit)) ⌝ }
 {
     if !has_room(words.len(), values.len(), errors.len()) {
         return ParseAnswer::Faulty(Fault {
@@ -205,8 +210,8 @@ pub fn parse(text: &[u8], words: &mut [u64], values: &mut [u64], errors: &mut [i
             wrong: Wrong::NoRoom,
         });
     }
-    match check(text) {
+    match check(text, by) {
         ParseAnswer::Faulty(fault) => ParseAnswer::Faulty(fault),
-        ParseAnswer::Parsed(_) => fill(text, words, values, errors),
+        ParseAnswer::Parsed(_) => fill(text, by, words, values, errors),
     }
 }

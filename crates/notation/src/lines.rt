@@ -1,7 +1,7 @@
-// What a line adds to those before it, by the rules of the working file; P and what is no record are the text's own.
+// What a line adds to those before it, by the rules of the working file; P, N, S and what is no record are the text's own.
 ghost use mathlib.Core.Path.{_≡_};
 ghost use Rattle.workfile.specs.declared.FileRecord.the-variants.{Word, Value, ErrorOf};
-ghost use Rattle.notation.specs.Contents.{brokenRule, takenPlan, takenRecord, takenOf};
+ghost use Rattle.notation.specs.Contents.{brokenRule, takenPlan, takenStratum, takenRecord, takenOf};
 use crate::State;
 use crate::Taken;
 use entry::Record;
@@ -61,7 +61,7 @@ fn broken_rule(tally: Tally, found: FileRecord) -> Wrong
     }
 }
 
-// P: once, and with a level of one byte.
+// P or N: once, and with a level of one byte.
 fn take_plan(s: State, level: u64, te: u64, ae: u64) -> Taken
     ensures { λ r. ⌜ r ≡ takenPlan s level te ae ⌝ }
 {
@@ -84,7 +84,18 @@ fn take_plan(s: State, level: u64, te: u64, ae: u64) -> Taken
     })
 }
 
-// Any other record: after P, and as the file's rules judge it.
+// S: after N.
+fn take_stratum(s: State) -> Taken
+    ensures { λ r. ⌜ r ≡ takenStratum s ⌝ }
+{
+    if s.planned {
+        Taken::With(s)
+    } else {
+        Taken::Not(Wrong::NoPlan)
+    }
+}
+
+// Any other record: after P or N, and as the file's rules judge it.
 fn take_record(s: State, found: FileRecord) -> Taken
     ensures { λ r. ⌜ r ≡ takenRecord s found ⌝ }
 {
@@ -111,6 +122,7 @@ pub fn take(s: State, found: Record) -> Taken
     match found {
         Record::Nothing => Taken::With(s),
         Record::Plan(level, te, ae) => take_plan(s, level, te, ae),
+        Record::Stratum => take_stratum(s),
         Record::Filed(record) => take_record(s, record),
         Record::Unreadable(wrong) => Taken::Not(wrong),
     }

@@ -1,23 +1,10 @@
 // Makes a working file: reads a text in the notation from standard input and writes its file to standard output; or writes
 // what is wrong with the text to standard error, one line, and nothing to standard output.
-use notation::Fault;
+use entry::Notation;
 use notation::ParseAnswer;
+use typed::Typed;
 use workfile::Contents;
 use workfile::WriteAnswer;
-
-// A text longer than this is not taken.
-const MOST_TEXT: usize = 500_000;
-
-// What is wrong, one line to standard error.
-fn say(words: &[u8]) {
-    io::write_all(libc::STDERR_FILENO, words);
-}
-
-fn put_fault(fault: Fault) {
-    let mut page = [0u8; 80];
-    let length = faults::print_fault(fault, &mut page);
-    say(&page[..length]);
-}
 
 // The file of a content, written at once.
 fn put_file(contents: Contents, words: &[u64], values: &[u64], errors: &[i64]) {
@@ -37,7 +24,7 @@ fn put_file(contents: Contents, words: &[u64], values: &[u64], errors: &[i64]) {
         }
         // no text earns this: `text-writes` of crate notation
         WriteAnswer::Refused(_) => {
-            say(b"the text has no file\n");
+            typed::say(b"the text has no file\n");
         }
     }
 }
@@ -46,8 +33,8 @@ fn pack(text: &[u8]) {
     let mut words = [0u64; workfile::MOST_WORDS];
     let mut values = [0u64; workfile::MOST_FILE_LINES];
     let mut errors = [0i64; workfile::MOST_FILE_LINES];
-    match notation::parse(text, &mut words, &mut values, &mut errors) {
-        ParseAnswer::Faulty(fault) => put_fault(fault),
+    match notation::parse(text, Notation::Desk, &mut words, &mut values, &mut errors) {
+        ParseAnswer::Faulty(fault) => typed::say_fault(fault, Notation::Desk),
         ParseAnswer::Parsed(contents) => {
             let count = contents.words as usize;
             let lines = contents.lines as usize;
@@ -61,21 +48,10 @@ fn pack(text: &[u8]) {
     }
 }
 
-// Whether a text begins with a byte-order mark: that of UTF-8, or one of UTF-16.
-fn is_marked(first: u8, second: u8, third: u8) -> bool {
-    first == 239 && second == 187 && third == 191
-        || first == 255 && second == 254
-        || first == 254 && second == 255
-}
-
 fn main() {
-    let mut text = [0u8; 500_001];
-    let length = io::read_full(libc::STDIN_FILENO, &mut text);
-    if length > MOST_TEXT {
-        say(b"the text is longer than 500000 bytes\n");
-    } else if is_marked(text[0], text[1], text[2]) {
-        say(b"the text begins with a byte-order mark: save it as UTF-8 without one\n");
-    } else {
-        pack(&text[..length]);
+    let mut text = [0u8; typed::TEXT_ROOM];
+    match typed::read_text(&mut text) {
+        Typed::Nothing => {}
+        Typed::Text(length) => pack(&text[..length]),
     }
 }

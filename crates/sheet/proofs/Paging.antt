@@ -43,7 +43,7 @@ module _ (plan : Plan) (words ledger : List ℕ) (errors : List ℤ) {r : StepsA
       Page.Wrote o a (stepsText plan words ledger errors) o′ a′ × (length (stepsText plan words ledger errors) ≤ 464 + 90 * length ledger)
   content-answered is p w = as-bounded (steps-text plan words ledger errors (sym (ap stepsSays is) ∙ p .answer)) (omega arith) w
 
-  pub content-shown : {answers : Answers} → r ≡ steps.Answered answers → StepsPromise plan words ledger errors r → Shown (answers .figures .interval) ledger errors
+  pub content-shown : {answers : Answers} → r ≡ steps.Answered answers → StepsPromise plan words ledger errors r → Shown 0 (answers .figures .interval) ledger errors
   content-shown is p = steps-shown plan words ledger errors _ (sym (ap stepsSays is) ∙ p .answer)
 
 module _ (file page : List ℕ) where

@@ -85,19 +85,19 @@ walk-short errors J next item [] sizes h narrow w most = rw (walk-none J next si
 walk-short errors J next item (v ∷ vs) sizes h narrow w most =
     let e : ℕ = getD sizes 0 0 in
     let l : Line = lineAt J next v e in
-    let u = isUnder (getD errors item (pos 0)) in
+    let u = isUnder (getD errors 0 (pos 0)) in
     let front : (k : ℕ) → getD (drop 1 sizes) k 0 ≡ getD sizes (suc k) 0 = λ k. let one : 1 + k ≡ suc k = omega arith in getD-drop 1 sizes k 0 ∙ ap (λ (n : ℕ). getD sizes n 0) one in
     let own = w 0 (omega arith) in
     let first = state-short item v u e (l .state) (omega arith) (omega (arith, most 0)) (omega (arith, own, most 0)) (state-sized J next v e (full J v) (ltb next v) refl narrow own) in
-    let later = walk-short errors J (aheadAfter J next v) (suc item) vs (drop 1 sizes) (omega arith) narrow (λ k g. omega (arith, w (suc k) (omega arith), front k)) (λ k. most (suc k)) in
+    let later = walk-short (drop 1 errors) J (aheadAfter J next v) (suc item) vs (drop 1 sizes) (omega arith) narrow (λ k g. omega (arith, w (suc k) (omega arith), front k)) (λ k. most (suc k)) in
     rw (walk-more J next v vs sizes)
-    (omega (arith, length-append (itemText item u l) (itemsText errors (suc item) (linesWalk J (aheadAfter J next v) vs (drop 1 sizes))), first, later))
+    (omega (arith, length-append (itemText item u l) (itemsText (drop 1 errors) (suc item) (linesWalk J (aheadAfter J next v) vs (drop 1 sizes))), first, later))
 
 -- those of a ledger that the steps accept
-pub ledger-short : {J : ℕ} {ledger : List ℕ} {errors : List ℤ} → Shown J ledger errors → (start : ℕ) → length (ledgerText J start ledger errors) ≤ 90 * length ledger
-ledger-short {J} {ledger} {errors} p start =
-    rw (rest-all J ledger errors start)
-    (walk-short errors J start 0 ledger (parts Size errors) (omega (arith, p .few)) (p .narrow) (p .within) (λ k. omega (arith, one-of-sum ledger k, p .summed)))
+pub ledger-short : {first J : ℕ} {ledger : List ℕ} {errors : List ℤ} → Shown first J ledger errors → (start : ℕ) → length (ledgerText first J start ledger errors) ≤ 90 * length ledger
+ledger-short {first} {J} {ledger} {errors} p start =
+    rw (rest-all first J ledger errors start)
+    (walk-short errors J start (first + 0) ledger (parts Size errors) (omega (arith, p .few)) (p .narrow) (p .within) (λ k. omega (arith, one-of-sum ledger k, p .summed)))
 
 refused-short : (number place : ℕ) → Small number → Small place → length (refusedLine number place) ≤ 50
 refused-short number place hn hp = omega (arith, line-short (letters "refused") (number ∷ place ∷ []) (hn, (hp, tt)))
@@ -188,14 +188,14 @@ module _ (j : Judgement) (s : SmallJudgement j) where
         verdict-short (j .verdict),
       )
 
-pub answers-short : (ledger : List ℕ) (errors : List ℤ) (a : Answers) → SmallAnswers a → Shown (a .figures .interval) ledger errors →
+pub answers-short : (ledger : List ℕ) (errors : List ℤ) (a : Answers) → SmallAnswers a → Shown 0 (a .figures .interval) ledger errors →
     length (answersText ledger errors a) ≤ 464 + 90 * length ledger
 unfolding answersText
 answers-short ledger errors a s p =
     let plan = planLine (a .planned) in
     let split = splitLine (a .figures) in
     let start = startLine (a .chosen) in
-    let lines = ledgerText (a .figures .interval) (a .chosen .start) ledger errors in
+    let lines = ledgerText 0 (a .figures .interval) (a .chosen .start) ledger errors in
     let project = projectLine (a .judgement .projection) in
     let judge = judgeLine (a .judgement) in
     omega (

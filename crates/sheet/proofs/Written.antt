@@ -66,7 +66,7 @@ module _ {page : List ℕ} {at : ℕ} where
   closing-written j projected judged = projected ⨾ judged
 
   pub answers-written : (ledger : List ℕ) (errors : List ℤ) (a : Answers) {p₁ p₂ p₃ : List ℕ} {a₁ a₂ a₃ : ℕ} → Wrote page at (openingText a) p₁ a₁ →
-      Wrote p₁ a₁ (ledgerText (a .figures .interval) (a .chosen .start) ledger errors) p₂ a₂ → Wrote p₂ a₂ (closingText (a .judgement)) p₃ a₃ →
+      Wrote p₁ a₁ (ledgerText 0 (a .figures .interval) (a .chosen .start) ledger errors) p₂ a₂ → Wrote p₂ a₂ (closingText (a .judgement)) p₃ a₃ →
       Wrote page at (answersText ledger errors a) p₃ a₃
   unfolding answersText
   answers-written ledger errors a opened listed closed = opened ⨾ listed ⨾ closed

@@ -3,7 +3,7 @@ use Prim.Native.Nat.{ℕ, suc}
 use mathlib.Core.Bool.{Bool}
 use mathlib.Core.List.{List, [], _∷_, _++_}
 use lib.IntN.{ℤ, pos}
-use lib.ListN.{getD}
+use lib.ListN.{getD, drop}
 use Rattle.signed.specs.declared.Part.the-variants.{Size}
 use Rattle.signed.specs.Errors.{isUnder}
 use Rattle.pen.specs.Letters.{letters}
@@ -45,7 +45,7 @@ itemText item under l = stateText item (l .value) under (l .error) (l .state)
 -- the lines in ledger order, from an item's number on, each with the sign of its error
 unfoldable pub itemsText : List ℤ → ℕ → List Line → List ℕ
 itemsText errors item [] = []
-itemsText errors item (l ∷ later) = itemText item (isUnder (getD errors item (pos 0))) l ++ itemsText errors (suc item) later
+itemsText errors item (l ∷ later) = itemText item (isUnder (getD errors 0 (pos 0))) l ++ itemsText (drop 1 errors) (suc item) later
 
 -- project: full sum, sampled sum, m; what is understated, full and sampled; the net
 abbrev pub projectLine : Projection → List ℕ
@@ -65,9 +65,9 @@ judgeLine j = line (letters "judge" ∷ decimal (j .precision) ∷ decimal (j .�
 abbrev pub refusedLine : ℕ → ℕ → List ℕ
 refusedLine number place = line (letters "refused" ∷ decimal number ∷ decimal place ∷ [])
 
--- the drawn and full lines of a ledger, at an interval and a start
-unfoldable pub ledgerText : ℕ → ℕ → List ℕ → List ℤ → List ℕ
-ledgerText J start ledger errors = itemsText errors 0 (linesWith Size J start ledger errors)
+-- the drawn and full lines of a ledger whose first line has a number, at an interval and a start
+unfoldable pub ledgerText : ℕ → ℕ → ℕ → List ℕ → List ℤ → List ℕ
+ledgerText first J start ledger errors = itemsText errors first (linesWith Size J start ledger errors)
 
 -- the lines before those of the ledger, and after them
 abbrev pub openingText : Answers → List ℕ
@@ -78,4 +78,4 @@ closingText j = projectLine (j .projection) ++ judgeLine j
 
 -- the sheet of what the steps have answered on a ledger with its errors
 unfoldable pub answersText : List ℕ → List ℤ → Answers → List ℕ
-answersText ledger errors a = openingText a ++ (ledgerText (a .figures .interval) (a .chosen .start) ledger errors ++ closingText (a .judgement))
+answersText ledger errors a = openingText a ++ (ledgerText 0 (a .figures .interval) (a .chosen .start) ledger errors ++ closingText (a .judgement))

@@ -1,5 +1,5 @@
 // The desk program's whole text, from the bytes of a working file.
-mod lines; // lines.rt: the lines of the sheet
+pub mod lines; // lines.rt: the lines of the sheet
 
 use pen::Pen;
 use steps::StepsAnswer;

@@ -10,6 +10,7 @@ use start::Chosen;
 use steps::Answers;
 use steps::Planned;
 use terms::Cent;
+use terms::Item;
 use terms::Refusal;
 use walk::Ahead;
 ghost use Prim.Native.Nat.{_+_, _*_, _≤_};
@@ -110,24 +111,26 @@ fn ledger_line(
     item_line(pen, page, item, error < 0, line)
 }
 
-// The drawn and full lines, in ledger order.
-fn ledger_lines(
+// The drawn and full lines, in ledger order, of lines of which the first has the number `first`.
+pub fn ledger_lines(
     pen: Pen,
     page: &mut [u8],
+    first: Item,
     ledger: &[u64],
     errors: &[i64],
     interval: u64,
     start: Cent,
 ) -> Pen
-    requires { ⌜ Shown interval (now ledger) (now errors) ⌝ }
-    ensures { λ r. ⌜ Wrote (now (page .entry)) (pen .at) (ledgerText interval (start .0) (now (ledger .entry)) (now (errors .entry))) (now (page .exit)) (r .at) ⌝ }
+    requires { ⌜ Shown (first .0) interval (now ledger) (now errors) ⌝ }
+    ensures { λ r. ⌜ Wrote (now (page .entry)) (pen .at) (ledgerText (first .0) interval (start .0) (now (ledger .entry)) (now (errors .entry))) (now (page .exit)) (r .at) ⌝ }
 {
     let mut at = pen;
     let mut next = Ahead(start.0);
     let mut item: usize = 0;
     while item < ledger.len() {
         let value = ledger[item];
-        at = ledger_line(at, page, item as u64, value, errors[item], interval, next);
+        let number = first.0 + item;
+        at = ledger_line(at, page, number as u64, value, errors[item], interval, next);
         next = walk::step_over(value, interval, next);
         item += 1;
     }
@@ -135,7 +138,7 @@ fn ledger_lines(
 }
 
 // The net as the last of a line.
-fn net_word(pen: Pen, page: &mut [u8], net: i64) -> Pen
+pub fn net_word(pen: Pen, page: &mut [u8], net: i64) -> Pen
     ensures { λ r. ⌜ Wrote (now (page .entry)) (pen .at) (more (signedText net ∷ [])) (now (page .exit)) (r .at) ⌝ }
 {
     let size = signed::size_of(net);
@@ -214,13 +217,13 @@ pub fn answers_text(
     ledger: &[u64],
     errors: &[i64],
 ) -> Pen
-    requires { ⌜ Shown (answers .figures .interval) (now ledger) (now errors) ⌝ }
+    requires { ⌜ Shown 0 (answers .figures .interval) (now ledger) (now errors) ⌝ }
     ensures { λ r. ⌜ Wrote (now (page .entry)) (pen .at) (answersText (now (ledger .entry)) (now (errors .entry)) answers) (now (page .exit)) (r .at) ⌝ }
     ensures { λ r. ⌜ length (answersText (now (ledger .entry)) (now (errors .entry)) answers) ≤ 464 + 90 * length (now (ledger .entry)) ⌝ }
 {
     let interval = answers.figures.interval;
     let start = Cent(answers.chosen.start);
     let opened = opening_text(pen, page, answers);
-    let listed = ledger_lines(opened, page, ledger, errors, interval, start);
+    let listed = ledger_lines(opened, page, Item(0), ledger, errors, interval, start);
     closing_text(listed, page, answers.judgement)
 }

@@ -97,3 +97,20 @@ twelve-only J p l = go (ltb mostInterval J) (leb J 1) refl
     go true b q e = let z : _≡_ {A = ℕ} 0 1 = cc in absurd (omega arith)
     go false true q e = let z : _≡_ {A = ℕ} 0 1 = cc in absurd (omega arith)
     go false false q e = let r = only-from J 0 p l e in (leb-false _ _ q, r .0, omega (arith, r .1))
+
+-- the words read are among those lent
+first-words-read : (J range read : ℕ) (l : List ℕ) (chosen : Chosen) → firstFrom J range read l ≡ accepted chosen → chosen .words ≤ read + length l
+unfolding firstFrom
+first-words-read J range read [] chosen e = never e
+first-words-read J range read (word ∷ l) chosen e =
+    by-test (λ o. o ≡ accepted chosen → chosen .words ≤ read + suc (length l)) (ltb (word % range) J)
+    (λ p f. let same : record { start = word % range; words = suc read } ≡ chosen = cc in omega (arith, ap (λ (c : Chosen). c .words) same))
+    (λ p f. omega (arith, first-words-read J range (suc read) l chosen f)) e
+
+pub words-within : (J : ℕ) (l : List ℕ) (chosen : Chosen) → startOf J l ≡ accepted chosen → chosen .words ≤ length l
+unfolding startOf
+words-within J l chosen e =
+    by-test (λ o. o ≡ accepted chosen → chosen .words ≤ length l) (ltb mostInterval J) (λ p f. never f)
+    (λ p f. by-test (λ o. o ≡ accepted chosen → chosen .words ≤ length l) (leb J 1)
+    (λ q g. let same : record { start = 0; words = 0 } ≡ chosen = cc in omega (arith, ap (λ (c : Chosen). c .words) same))
+    (λ q g. omega (arith, first-words-read J (2 ^ bits (J - 1)) 0 l chosen g)) f) e

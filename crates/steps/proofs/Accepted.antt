@@ -2,6 +2,7 @@
 use Prim.Native.Nat.{ℕ, _≤_}
 use mathlib.Core.Path.{_≡_, sym, _∙_}
 use mathlib.Core.List.{List}
+use native.Mathlib.Omega.{arith}
 use lib.IntN.{ℤ}
 use lib.ListN.{length}
 use Rattle.terms.specs.Outcome.{accepted}
@@ -23,7 +24,7 @@ use Rattle.steps.specs.Steps.{plannedWith, answersWith, judgedFrom, star
 
 -- from the split on
 split-shown : (p : Planned) (words ledger : List ℕ) (errors : List ℤ) (a : Answers) → splitFrom p words ledger errors ≡ accepted a →
-    Shown (a .figures .interval) ledger errors × (1 ≤ a .figures .«draws_left»)
+    Shown 0 (a .figures .interval) ledger errors × (1 ≤ a .figures .«draws_left»)
 unfolding splitFrom startedFrom judgedFrom
 split-shown p words ledger errors a e =
     let b = after-accepted (startedFrom p words ledger errors) (splitOf ledger (p .draws) (length errors)) a e in
@@ -33,9 +34,9 @@ split-shown p words ledger errors a e =
     let s = d .0 in
     let g = after-accepted (λ judgement. accepted (answersWith p f s judgement)) (judgeOf (p .level) ledger (p .draws) (s .start) errors (p .te)) a (d .2) in
     let same : f ≡ a .figures = let w : accepted (answersWith p f s (g .0)) ≡ accepted a = g .2 in cc in
-    let shown : Shown (a .figures .interval) ledger errors = record {
+    let shown : Shown 0 (a .figures .interval) ledger errors = record {
       narrow = rw (← same) (facts .most);
-      few = facts .ledger-good .few;
+      few = omega (arith, facts .ledger-good .few);
       summed = facts .ledger-good .most;
       same = facts .ledger-good .same;
       within = judge-facts (p .level) ledger (p .draws) (s .start) errors (p .te) (g .0) (g .1) .errors-within;
@@ -44,7 +45,7 @@ split-shown p words ledger errors a e =
 
 -- from the level on
 steps-accepted : (plan : Plan) (words ledger : List ℕ) (errors : List ℤ) (a : Answers) → accepted a ≡ stepsOf plan words ledger errors →
-    Shown (a .figures .interval) ledger errors × (1 ≤ a .figures .«draws_left»)
+    Shown 0 (a .figures .interval) ledger errors × (1 ≤ a .figures .«draws_left»)
 unfolding stepsOf totalledFrom sizedFrom
 steps-accepted plan words ledger errors a e =
     let b = after-accepted (λ level. totalledFrom plan words ledger errors) (levelOf (plan .level)) a (sym e) in
@@ -52,7 +53,7 @@ steps-accepted plan words ledger errors a e =
     let g = after-accepted (λ draws. splitFrom (plannedWith plan (d .0) draws) words ledger errors) (sizeOf (plan .level) (d .0) (plan .te) (plan .ae)) a (d .2) in
     split-shown (plannedWith plan (d .0) (g .0)) words ledger errors a (g .2)
 
-pub steps-shown : (plan : Plan) (words ledger : List ℕ) (errors : List ℤ) (a : Answers) → accepted a ≡ stepsOf plan words ledger errors → Shown (a .figures .interval) ledger errors
+pub steps-shown : (plan : Plan) (words ledger : List ℕ) (errors : List ℤ) (a : Answers) → accepted a ≡ stepsOf plan words ledger errors → Shown 0 (a .figures .interval) ledger errors
 steps-shown plan words ledger errors a e = steps-accepted plan words ledger errors a e .0
 
 -- as `steps` meets it

@@ -1,5 +1,5 @@
 -- The steps in the desk program's order, from a file's content: each after the refusals of those before it. Definitions: nothing is assumed.
-use Prim.Native.Nat.{ℕ, _≤_, _<_}
+use Prim.Native.Nat.{ℕ, _+_, _≤_, _<_}
 use mathlib.Core.Path.{_≡_}
 use mathlib.Core.List.{List}
 use lib.IntN.{ℤ}
@@ -65,10 +65,10 @@ pub record StepsPromise (plan : Plan) (words ledger : List ℕ) (errors : List �
   pub answer : stepsSays r ≡ stepsOf plan words ledger errors
   pub draw-kept : (answers : Answers) → stepsSays r ≡ accepted answers → 1 ≤ answers .figures .«draws_left»
 
--- what steps that accept have shown of the interval and the lines
-pub record Shown (J : ℕ) (ledger : List ℕ) (errors : List ℤ) : Type 0 where
+-- what steps that accept have shown of the interval and the lines, the first of which has a number
+pub record Shown (first J : ℕ) (ledger : List ℕ) (errors : List ℤ) : Type 0 where
   pub narrow : J ≤ mostInterval
-  pub few : length ledger ≤ mostLines
+  pub few : first + length ledger ≤ mostLines
   pub summed : sum ledger ≤ mostTotal
   pub same : length errors ≡ length ledger
   pub within : (item : ℕ) → item < length ledger → getD (parts Size errors) item 0 ≤ getD ledger item 0

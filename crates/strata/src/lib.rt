@@ -51,7 +51,7 @@ fn counts_add(counts: &[u64], lines: u64) -> bool
 }
 
 // The book value of a stratum's lines.
-fn book_of(part: &[u64]) -> u64
+pub fn book_of(part: &[u64]) -> u64
     requires { ⌜ sum (now part) < 2 ^ 64 ⌝ }
     ensures { λ r. ⌜ r ≡ sum (now (part .entry)) ⌝ }
 {

@@ -12,7 +12,7 @@ write-line-requires c κs = search needs
 returns : tie.Need-returns
 returns c =
     let start = c .before .before in
-    printed _ _ _ _ (omega (arith, fault-short (start .args .fault) (search needs))) (c .write-line .ensures)
+    printed _ _ _ _ (omega (arith, fault-short (start .args .by) (start .args .fault) (search needs))) (c .write-line .ensures)
 
 pub print-fault-spec : {M : Type 1} → statement M
 print-fault-spec = tie.close (tie.spec write-line-requires returns)

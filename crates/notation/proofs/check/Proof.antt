@@ -8,10 +8,10 @@ use Rattle.notation.proofs.check.Statement.{statement}
 use Rattle.notation.proofs.check.Tie as tie
 
 abbrev Inv-loop : tie.InvT-loop
-Inv-loop text at₀ line₀ state₀ at line state = Stands text at line state
+Inv-loop text by at₀ line₀ state₀ at line state = Stands by text at line state
 
 abbrev μ-loop : tie.MeasureT-loop
-μ-loop text at₀ line₀ state₀ at line state = length text - at
+μ-loop text by at₀ line₀ state₀ at line state = length text - at
 
 first-state-requires : tie.Need-first-state-requires Inv-loop μ-loop
 first-state-requires c κs = search needs

@@ -9,10 +9,10 @@ use Rattle.notation.proofs.fill.Statement.{statement}
 use Rattle.notation.proofs.fill.Tie as tie
 
 abbrev Inv-loop : tie.InvT-loop
-Inv-loop text words₀ values₀ errors₀ at₀ line₀ state₀ words values errors at line state = Filling text at line state words₀ values₀ errors₀ words values errors
+Inv-loop text by words₀ values₀ errors₀ at₀ line₀ state₀ words values errors at line state = Filling by text at line state words₀ values₀ errors₀ words values errors
 
 abbrev μ-loop : tie.MeasureT-loop
-μ-loop text words₀ values₀ errors₀ at₀ line₀ state₀ words values errors at line state = length text - at
+μ-loop text by words₀ values₀ errors₀ at₀ line₀ state₀ words values errors at line state = length text - at
 
 first-state-requires : tie.Need-first-state-requires Inv-loop μ-loop
 first-state-requires c κs = search needs

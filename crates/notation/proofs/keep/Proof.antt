@@ -19,6 +19,9 @@ enum-told-2 c = search needs
 enum-told-3 : tie.Need-enum-told-3
 enum-told-3 c = search needs
 
+enum-told-4 : tie.Need-enum-told-4
+enum-told-4 c = search needs
+
 same-length : tie.Need-same-length
 same-length c = search needs
 
@@ -40,6 +43,9 @@ returns-3 c = search needs
 returns-4 : tie.Need-returns-4
 returns-4 c = search needs
 
+returns-5 : tie.Need-returns-5
+returns-5 c = search needs
+
 pub keep-spec : {M : Type 1} → statement M
 keep-spec =
     tie.close
@@ -49,10 +55,12 @@ keep-spec =
     enum-told
     enum-told-2
     enum-told-3
+    enum-told-4
     same-length
     same-length-2
     same-length-3
     returns
     returns-2
     returns-3
-    returns-4)
+    returns-4
+    returns-5)

@@ -1,6 +1,7 @@
 -- `pack::put_file` is safe and ends: the writer's count fits the file that it leaves. Assumes nothing.
 use borrow.Author.Needs.{needs}
-use Rattle.pack.proofs.Fits.{written-fits, part-long}
+use Rattle.notation.proofs.Held.{part-long}
+use Rattle.pack.proofs.Fits.{written-fits}
 use Rattle.pack.proofs.put_file.Statement.{statement}
 use Rattle.pack.proofs.put_file.Tie as tie
 

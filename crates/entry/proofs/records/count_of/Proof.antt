@@ -27,7 +27,12 @@ unfolding countOf
 returns-5 c = sym (ap countOf (c .match .keys5))
 
 returns-6 : tie.Need-returns-6
-returns-6 c = search (needs, none-counted)
+unfolding countOf
+returns-6 c = sym (ap countOf (c .match .keys6))
+
+returns-7 : tie.Need-returns-7
+returns-7 c = search (needs, none-counted)
 
 pub count-of-spec : {M : Type 1} → statement M
-count-of-spec = tie.close (tie.spec returns returns-2 returns-3 returns-4 returns-5 returns-6)
+count-of-spec =
+    tie.close (tie.spec returns returns-2 returns-3 returns-4 returns-5 returns-6 returns-7)

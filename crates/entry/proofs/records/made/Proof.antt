@@ -27,7 +27,17 @@ unfolding madeOf
 returns-5 c = sym (ap (λ kind. madeOf kind (c .before .args .numbers)) (c .match .keys5))
 
 returns-6 : tie.Need-returns-6
-returns-6 c = search (needs, none-made)
+unfolding madeOf
+returns-6 c = sym (ap (λ kind. madeOf kind (c .before .args .numbers)) (c .match .keys6))
+
+returns-7 : tie.Need-returns-7
+unfolding madeOf
+returns-7 c = sym (ap (λ kind. madeOf kind (c .before .args .numbers)) (c .match .keys7))
+
+returns-8 : tie.Need-returns-8
+returns-8 c = search (needs, none-made)
 
 pub made-spec : {M : Type 1} → statement M
-made-spec = tie.close (tie.spec returns returns-2 returns-3 returns-4 returns-5 returns-6)
+made-spec =
+    tie.close
+    (tie.spec returns returns-2 returns-3 returns-4 returns-5 returns-6 returns-7 returns-8)

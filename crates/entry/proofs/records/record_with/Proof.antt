@@ -4,11 +4,14 @@ use Rattle.entry.proofs.Lines.{no-kind, no-numbers, of-numbers}
 use Rattle.entry.proofs.records.record_with.Statement.{statement}
 use Rattle.entry.proofs.records.record_with.Tie as tie
 
-count-of-requires : tie.Need-count-of-requires
-count-of-requires c κs = search needs
+is-kind-requires : tie.Need-is-kind-requires
+is-kind-requires c κs = search needs
 
 returns : tie.Need-returns
 returns c = search (needs, no-kind)
+
+count-of-requires : tie.Need-count-of-requires
+count-of-requires c κs = search needs
 
 read-numbers-requires : tie.Need-read-numbers-requires
 read-numbers-requires c κs = search needs
@@ -32,8 +35,9 @@ pub record-with-spec : {M : Type 1} → statement M
 record-with-spec =
     tie.close
     (tie.spec
-    count-of-requires
+    is-kind-requires
     returns
+    count-of-requires
     read-numbers-requires
     enum-known-wrong
     enum-known-numbers

@@ -5,3 +5,5 @@ pub mod Demand3
 pub mod Strata
 pub mod Worked
 pub mod Practice
+pub mod MoreError
+pub mod MoreErrorStrata

@@ -2,3 +2,5 @@ pub mod Starts
 pub mod Demand3
 pub mod Strata
 pub mod Practice
+pub mod MoreError
+pub mod MoreErrorStrata

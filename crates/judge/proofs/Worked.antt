@@ -1,4 +1,5 @@
--- The practice sheet's judgements, the edges of the verdict and of m, and the order of the refusals, by computation. Assumes nothing.
+-- The practice sheet's judgements, the edges of the verdict and of m, the order of the refusals, and an error or the level raised, by computation. Assumes
+-- nothing.
 use mathlib.Core.Path.{_≡_, refl}
 use mathlib.Core.List.{List, [], _∷_, _++_}
 use Prim.Native.Nat.{ℕ, _+_}
@@ -90,3 +91,25 @@ pub too-many : (judgeOf 90 (replicate 64 1) 64 0 (replicate 64 (pos 1)) 64 ≡ r
     × (judgeOf 90 (replicate 64 2 ++ (1 ∷ 1 ∷ [])) 65 0 (replicate 66 (pos 1)) 65 ≡ refused 15 65)
 unfolding judgeOf levelOf judgedLedger judgedFigures figuresFor splitOf figuresFrom ledgerOf runningTotal runningFrom rounds judgedAt checkedLines checkedFrom checkedLine linesOf linesFrom judgedLines total amountsOf amount covers points divUp parts partOf overstated understated sizeOf
 too-many = (refl, refl)
+
+-- the practice ledger a hundred times as large, with an error on line 0
+abbrev larger : ℕ → ℤ → Outcome Judgement
+larger level error = judgeOf level (3000 ∷ 3000 ∷ 4000 ∷ 2000 ∷ []) 3 2500 (error ∷ pos 0 ∷ pos 1000 ∷ pos 500 ∷ []) 5900
+
+-- at level 50 with 700 too little, none, then more and more too much, and more than its value: the verdict moves on, and the limit rises where the precision falls
+pub one-raised : (larger 50 (negsuc 699)
+    ≡ accepted (record { projection = record { full = 0; sampled = 2000; m = 2; «under_full» = 0; «under_sampled» = 934; net = pos 1066 }; precision = 2780; «upper_limit» = 4780; verdict = Below }))
+    × (larger 50 (pos 0) ≡ with 2000 2 2780 4780 Below)
+    × (larger 50 (pos 700) ≡ with 2934 3 2780 5714 Below)
+    × (larger 50 (pos 2250) ≡ with 5000 3 2740 7740 Inconclusive)
+    × (larger 50 (pos 3000) ≡ with 6000 3 2720 8720 Above)
+    × (larger 50 (pos 3001) ≡ refused 14 0)
+unfolding judgeOf levelOf judgedLedger judgedFigures figuresFor splitOf figuresFrom ledgerOf runningTotal runningFrom rounds judgedAt checkedLines checkedFrom checkedLine linesOf linesFrom judgedLines total amountsOf amount covers points divUp concluded verdictOf precisionOf hundredths roundUp sortDown rf stepOf table parts partOf overstated understated sizeOf
+one-raised = (refl, refl, refl, refl, refl, refl)
+
+-- at a higher level below becomes inconclusive, and above stays
+pub level-raised : (larger 60 (pos 700) ≡ with 2934 3 3936 6870 Inconclusive)
+    × (larger 99 (pos 700) ≡ with 2934 3 20838 23772 Inconclusive)
+    × (larger 99 (pos 3000) ≡ with 6000 3 23970 29970 Above)
+unfolding judgeOf levelOf judgedLedger judgedFigures figuresFor splitOf figuresFrom ledgerOf runningTotal runningFrom rounds judgedAt checkedLines checkedFrom checkedLine linesOf linesFrom judgedLines total amountsOf amount covers points divUp concluded verdictOf precisionOf hundredths roundUp sortDown rf stepOf table parts partOf overstated understated sizeOf
+level-raised = (refl, refl, refl)

@@ -20,7 +20,7 @@ use Rattle.precision.proofs.Sums.{Fallen, byParts, in-naturals, by-part
 
 -- the amounts of a judgement in the order in which they came: fewer than 64, none above J
 module _ (l : Level) (J : ℕ) (amounts : List ℕ) (few : length amounts < 64) (all : AllUpTo J amounts) where
-  fallen : Fallen l J (sortDown amounts)
+  pub fallen : Fallen l J (sortDown amounts)
   fallen = record { few = omega (arith, length-sort amounts); fall = sort-falls J amounts all }
 
   -- the sum in naturals
@@ -30,7 +30,7 @@ module _ (l : Level) (J : ℕ) (amounts : List ℕ) (few : length amounts < 64) 
   natural-is : hundredths l J (sortDown amounts) (length amounts) ≡ pos natural
   natural-is = in-naturals fallen (length amounts) (omega (arith, length-sort amounts))
 
-  in-hundreds : precisionOf l J amounts ≡ pos ((natural + 99) / 100)
+  pub in-hundreds : precisionOf l J amounts ≡ pos ((natural + 99) / 100)
   unfolding precisionOf roundUp
   in-hundreds = ap roundUp natural-is
 

@@ -80,7 +80,7 @@ pub record Weighed (J : ℕ) (row s : List ℕ) (sum i : ℕ) : Type 0 where
   pub value : (l : Level) → row ≡ factorsOf l → toZ w64 sum ≡ hundredths l J s i
 
 module _ {l : Level} {J : ℕ} {s : List ℕ} (at : Fallen l J s) where
-  next-part : (k : ℕ) → k < length s → byParts l J s (suc k) + (rf l k + 100) * getD s k 0 ≡ byParts l J s k + rf l (suc k) * getD s k 0
+  pub next-part : (k : ℕ) → k < length s → byParts l J s (suc k) + (rf l k + 100) * getD s k 0 ≡ byParts l J s k + rf l (suc k) * getD s k 0
   unfolding byParts settled
   next-part k h =
       let short = at .few in

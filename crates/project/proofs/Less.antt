@@ -32,7 +32,7 @@ less-sound item J next v x y h s =
     is-sound item (lineAt J next v x) (le-trans h (s .within)) (less-misplaced (full J v) (ltb next v) (amount J v y) (amount J v x) x y h (s .fine))
 
 -- and on all lines
-later-less : (es fs : List ℕ) → ((i : ℕ) → getD es i 0 ≤ getD fs i 0) → (i : ℕ) → getD (drop 1 es) i 0 ≤ getD (drop 1 fs) i 0
+pub later-less : (es fs : List ℕ) → ((i : ℕ) → getD es i 0 ≤ getD fs i 0) → (i : ℕ) → getD (drop 1 es) i 0 ≤ getD (drop 1 fs) i 0
 later-less es fs h i = omega (arith, h (1 + i), getD-drop 1 es i 0, getD-drop 1 fs i 0)
 
 pub less-pass : (J next item : ℕ) (vs es fs : List ℕ) → ((i : ℕ) → getD es i 0 ≤ getD fs i 0) → (good : List Line) → checkedFrom item (linesWalk J next vs fs) ≡ accepted good →

@@ -8,7 +8,7 @@ use native.Mathlib.Omega.{arith}
 use borrow.Author.Tests.{le-ltb}
 use lib.IntN.{ℤ, pos, negsuc}
 use lib.Signed.{mag, ltZ}
-use lib.ListN.{length, getD, take, drop, length-map}
+use lib.ListN.{length, getD, drop, length-map}
 use mir.Syntax.{w64}
 use mir.Val.{SFits}
 use Rattle.terms.specs.Numbers.{sum}
@@ -163,12 +163,6 @@ unfolding parts
 parts-at p [] i = sym (part-none p)
 parts-at p (e ∷ errors) zero = refl
 parts-at p (e ∷ errors) (suc i) = parts-at p errors i
-
-pub parts-take : (p : Part) (n : ℕ) (errors : List ℤ) → parts p (take n errors) ≡ take n (parts p errors)
-unfolding parts
-parts-take p zero errors = refl
-parts-take p (suc n) [] = refl
-parts-take p (suc n) (e ∷ errors) = ap (λ (l : List ℕ). partOf p e ∷ l) (parts-take p n errors)
 
 pub parts-drop : (p : Part) (n : ℕ) (errors : List ℤ) → parts p (drop n errors) ≡ drop n (parts p errors)
 unfolding parts

@@ -6,6 +6,7 @@ pub mod Padded
 pub mod Planning
 pub mod Starting
 pub mod Laws
+pub mod Entries
 pub mod Own
 pub mod Given
 pub mod One

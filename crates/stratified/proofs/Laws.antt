@@ -1,7 +1,8 @@
--- Which refusals the draw and the projection by strata give, and that a stratum's row depends on its own lines, errors and start. Assumes nothing.
-use mathlib.Core.Path.{_≡_, sym, ap, _∙_}
+-- Which refusals the draw and the projection by strata give, that a stratum's row depends on its own lines, errors and start, and what is known of an
+-- accepted projection. Assumes nothing.
+use mathlib.Core.Path.{_≡_, sym, ap, subst, _∙_}
 use mathlib.Core.List.{List, [], _∷_, _++_}
-use Prim.Native.Nat.{ℕ, zero, suc, _+_, _<_}
+use Prim.Native.Nat.{ℕ, zero, suc, _+_, _≤_, _<_, zero-le}
 use native.Mathlib.Nat.{add-assoc, add-zero}
 use native.Mathlib.Omega.{arith}
 use lib.IntN.{ℤ}
@@ -17,10 +18,12 @@ use Rattle.strata.specs.declared.Row.{Row}
 use Rattle.strata.specs.Strata.{partsOf, noRow}
 use Rattle.strata.specs.Starts.{startedOf}
 use Rattle.strata.proofs.Padded.{later-at}
+use Rattle.strata.proofs.Planning.{parts-many}
+use Rattle.strata.proofs.Starting.{StartedFacts, started-facts}
 use Rattle.strata.proofs.Given.{startedNumbers, started-gives}
 use Rattle.stratified.specs.declared.projection.ProjectionRow.{ProjectionRow}
 use Rattle.stratified.specs.Marks.{strataMarks, drawStrataOf}
-use Rattle.stratified.specs.Projection.{projectionRow, noProjection, projectedFrom, projectStrataOf}
+use Rattle.stratified.specs.Projection.{projectionRow, noProjection, projectedFrom, projectStrataOf, overOf, overAll}
 
 -- the refusals of the draw by strata
 pub draw-strata-gives : (ledger counts : List ℕ) (n : ℕ) (starts : List ℕ) (beside : ℕ) → Gives startedNumbers (drawStrataOf ledger counts n starts beside)
@@ -50,6 +53,24 @@ project-strata-gives ledger counts n starts errors =
     (gives-among startedNumbers projectedNumbers tt (startedOf ledger counts n starts (length errors)) (started-gives ledger counts n starts (length errors)))
     (λ rows. rows-give 0 (partsOf counts ledger) rows starts (partsOf counts errors))
 
+-- an accepted walk from a stratum on: its own projection, and the rows of the later ones
+pub record FirstRow (at : ℕ) (part : List ℕ) (parts : List (List ℕ)) (rows : List Row) (starts : List ℕ) (errors : List (List ℤ)) (projected : List ProjectionRow) : Type 0 where
+  pub sums : Projection
+  pub own : projectionAt at (getD rows 0 noRow .figures .interval) (getD starts 0 0) part (getD errors 0 []) ≡ accepted sums
+  pub more : List ProjectionRow
+  pub rest : projectedFrom (at + length part) parts (drop 1 rows) (drop 1 starts) (drop 1 errors) ≡ accepted more
+  pub whole : projectionRow (getD rows 0 noRow) sums ∷ more ≡ projected
+
+pub first-row : (at : ℕ) (part : List ℕ) (parts : List (List ℕ)) (rows : List Row) (starts : List ℕ) (errors : List (List ℤ)) (projected : List ProjectionRow) →
+    projectedFrom at (part ∷ parts) rows starts errors ≡ accepted projected → FirstRow at part parts rows starts errors projected
+unfolding projectedFrom
+first-row at part parts rows starts errors projected e =
+    let others = projectedFrom (at + length part) parts (drop 1 rows) (drop 1 starts) (drop 1 errors) in
+    let a = after-accepted (λ (sums : Projection). after (λ more. accepted (projectionRow (getD rows 0 noRow) sums ∷ more)) others)
+    (projectionAt at (getD rows 0 noRow .figures .interval) (getD starts 0 0) part (getD errors 0 [])) projected e in
+    let b = after-accepted (λ (more : List ProjectionRow). accepted (projectionRow (getD rows 0 noRow) (a .0) ∷ more)) others projected (a .2) in
+    record { sums = a .0; own = a .1; more = b .0; rest = b .1; whole = let w = b .2 in cc }
+
 -- the number of a stratum's first line in the whole ledger
 abbrev pub firstOf : List (List ℕ) → ℕ → ℕ
 firstOf [] h = 0
@@ -65,15 +86,10 @@ pub record OwnRow (at : ℕ) (part : List ℕ) (row : Row) (start : ℕ) (errors
 pub own-rows : (at : ℕ) (parts : List (List ℕ)) (rows : List Row) (starts : List ℕ) (errors : List (List ℤ)) (projected : List ProjectionRow) →
     projectedFrom at parts rows starts errors ≡ accepted projected → (h : ℕ) → h < length parts →
     OwnRow (at + firstOf parts h) (getD parts h []) (getD rows h noRow) (getD starts h 0) (getD errors h []) (getD projected h noProjection)
-unfolding projectedFrom
 own-rows at [] rows starts errors projected e h inside = absurd (omega arith)
 own-rows at (part ∷ parts) rows starts errors projected e h inside =
-    let others = projectedFrom (at + length part) parts (drop 1 rows) (drop 1 starts) (drop 1 errors) in
-    let a = after-accepted (λ (sums : Projection). after (λ more. accepted (projectionRow (getD rows 0 noRow) sums ∷ more)) others)
-    (projectionAt at (getD rows 0 noRow .figures .interval) (getD starts 0 0) part (getD errors 0 [])) projected e in
-    let b = after-accepted (λ (more : List ProjectionRow). accepted (projectionRow (getD rows 0 noRow) (a .0) ∷ more)) others projected (a .2) in
-    let whole : projectionRow (getD rows 0 noRow) (a .0) ∷ b .0 ≡ projected = let w = b .2 in cc in
-    go h inside (a .0) (a .1) (b .0) whole (own-rows (at + length part) parts (drop 1 rows) (drop 1 starts) (drop 1 errors) (b .0) (b .1))
+    let f = first-row at part parts rows starts errors projected e in
+    go h inside (f .sums) (f .own) (f .more) (f .whole) (own-rows (at + length part) parts (drop 1 rows) (drop 1 starts) (drop 1 errors) (f .more) (f .rest))
   where
     go : (h : ℕ) → h < suc (length parts) → (sums : Projection) → projectionAt at (getD rows 0 noRow .figures .interval) (getD starts 0 0) part (getD errors 0 []) ≡ accepted sums →
         (more : List ProjectionRow) → projectionRow (getD rows 0 noRow) sums ∷ more ≡ projected →
@@ -100,3 +116,40 @@ pub others-unseen : {at : ℕ} {part : List ℕ} {row : Row} {start : ℕ} {erro
 others-unseen {row = row} p q =
     let same : p .sums ≡ q .sums = let w = sym (p .own) ∙ q .own in cc in
     p .is ∙ ap (projectionRow row) same ∙ sym (q .is)
+
+-- as many rows as strata
+rows-long : (at : ℕ) (parts : List (List ℕ)) (rows : List Row) (starts : List ℕ) (errors : List (List ℤ)) (projected : List ProjectionRow) →
+    projectedFrom at parts rows starts errors ≡ accepted projected → length projected ≡ length parts
+unfolding projectedFrom
+rows-long at [] rows starts errors projected e = let none : [] ≡ projected = cc in ap length (sym none)
+rows-long at (part ∷ parts) rows starts errors projected e =
+    let f = first-row at part parts rows starts errors projected e in
+    ap length (sym (f .whole)) ∙ ap suc (rows-long (at + length part) parts (drop 1 rows) (drop 1 starts) (drop 1 errors) (f .more) (f .rest))
+
+-- what is known of an accepted projection by strata
+pub record StrataFacts (ledger counts : List ℕ) (n : ℕ) (starts : List ℕ) (errors : List ℤ) (projected : List ProjectionRow) : Type 0 where
+  pub rows : List Row
+  pub started : StartedFacts ledger counts n starts (length errors) rows
+  pub many : length projected ≡ length counts
+  pub each : (h : ℕ) → h < length counts →
+      OwnRow (0 + firstOf (partsOf counts ledger) h) (getD (partsOf counts ledger) h []) (getD rows h noRow) (getD starts h 0) (getD (partsOf counts errors) h []) (getD projected h noProjection)
+
+pub strata-facts : (ledger counts : List ℕ) (n : ℕ) (starts : List ℕ) (errors : List ℤ) (projected : List ProjectionRow) → projectStrataOf ledger counts n starts errors ≡ accepted projected →
+    StrataFacts ledger counts n starts errors projected
+unfolding projectStrataOf
+strata-facts ledger counts n starts errors projected e =
+    let parts = partsOf counts ledger in
+    let a = after-accepted (λ (rows : List Row). projectedFrom 0 parts rows starts (partsOf counts errors)) (startedOf ledger counts n starts (length errors)) projected e in
+    record {
+      rows = a .0;
+      started = started-facts ledger counts n starts (length errors) (a .0) (a .1);
+      many = rows-long 0 parts (a .0) starts (partsOf counts errors) projected (a .2) ∙ parts-many counts ledger;
+      each = λ h inside. own-rows 0 parts (a .0) starts (partsOf counts errors) projected (a .2) h (subst (λ (k : ℕ). h < k) (sym (parts-many counts ledger)) inside);
+    }
+
+-- the sum over the strata is not lower where no stratum's is
+pub over-all-up : (rows others : List ProjectionRow) → ((h : ℕ) → overOf (getD rows h noProjection) ≤ overOf (getD others h noProjection)) → overAll rows ≤ overAll others
+unfolding overAll
+over-all-up [] others up = zero-le
+over-all-up (row ∷ rows) [] up = omega (arith, up 0, over-all-up rows [] (λ h. up (suc h)))
+over-all-up (row ∷ rows) (other ∷ others) up = omega (arith, up 0, over-all-up rows others (λ h. up (suc h)))

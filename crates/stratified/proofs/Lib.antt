@@ -4,5 +4,6 @@ pub mod Marking
 pub mod Walking
 pub mod Totalling
 pub mod Laws
+pub mod Changed
 pub mod One
 pub mod Worked

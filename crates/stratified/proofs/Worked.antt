@@ -3,6 +3,7 @@ use mathlib.Core.Path.{_≡_, refl}
 use mathlib.Core.List.{List, [], _∷_}
 use Prim.Native.Nat.{ℕ}
 use lib.IntN.{ℤ, pos, negsuc}
+use lib.ListN.{drop}
 use Rattle.terms.specs.Outcome.{Outcome, accepted, refused}
 use Rattle.terms.specs.Numbers.{divUp}
 use Rattle.ledger.specs.Ledger.{runningTotal, runningFrom}
@@ -38,6 +39,13 @@ projected =
 pub projection-by-hand : (answerOf (pos 10 ∷ pos 0 ∷ pos 3 ∷ negsuc 3 ∷ pos 5 ∷ pos 0 ∷ []) ≡ accepted projected) × (overAll projected ≡ 21) × (underAll projected ≡ 4)
 unfolding projectStrataOf overAll underAll runningTotal runningFrom checkedLines checkedFrom checkedLine linesOf linesFrom covers points divUp total amount parts partOf sizeOf overstated understated
 projection-by-hand = (refl, refl, refl)
+
+-- the third line raised from 3 to 5, which is its value: the row of its stratum moves and no other; one cent more is refused
+pub line-raised : (answerOf (pos 10 ∷ pos 0 ∷ pos 5 ∷ negsuc 3 ∷ pos 5 ∷ pos 0 ∷ [])
+    ≡ accepted (record { draws = 2; interval = 10; full = 10; sampled = 10; «under_full» = 0; «under_sampled» = 0 } ∷ drop 1 projected))
+    × (answerOf (pos 10 ∷ pos 0 ∷ pos 6 ∷ negsuc 3 ∷ pos 5 ∷ pos 0 ∷ []) ≡ refused 14 2)
+unfolding projectStrataOf runningTotal runningFrom checkedLines checkedFrom checkedLine linesOf linesFrom covers points divUp total amount parts partOf sizeOf overstated understated
+line-raised = (refl, refl)
 
 -- 14 and 15 name the line of the whole ledger, and the first line that breaks a rule refuses; 14 before 15 on a line
 pub lines-refused : (answerOf (pos 0 ∷ pos 0 ∷ pos 0 ∷ negsuc 20 ∷ pos 0 ∷ pos 1 ∷ []) ≡ refused 14 3) × (answerOf (pos 0 ∷ pos 1 ∷ pos 0 ∷ negsuc 20 ∷ pos 0 ∷ pos 0 ∷ []) ≡ refused 15 1)

@@ -1,0 +1,3 @@
+-- How the statement is written, and document 000's.
+pub mod Writing
+pub mod Worked

@@ -1,0 +1,79 @@
+// The confidence statement of a control test in figures: items, exceptions, and the upper bound in percent with two decimals.
+use attributes::BoundAnswer;
+use attributes::ItemsAnswer;
+use pen::Pen;
+ghost use mathlib.Core.List.{_∷_, []};
+ghost use Rattle.pen.specs.Page.{Wrote, Printed};
+ghost use Rattle.pen.specs.Text.{more};
+ghost use Rattle.attributes.specs.Attributes.{boundSays};
+ghost use Rattle.confidence.specs.Confidence.{percentText, statementLine, boundText, statementText, Stated};
+
+// No statement is longer.
+pub const LONGEST_STATEMENT: usize = 76;
+
+// Hundredths of a percent, as 11.40.
+fn put_percent(pen: Pen, page: &mut [u8], hundredths: u64) -> Pen
+    ensures { λ r. ⌜ Wrote (now (page .entry)) (pen .at) (percentText hundredths) (now (page .exit)) (r .at) ⌝ }
+{
+    let whole = pen.number(page, hundredths / 100);
+    let pointed = whole.byte(page, 46);
+    let tenths = pointed.number(page, hundredths % 100 / 10);
+    tenths.number(page, hundredths % 10)
+}
+
+// A space and the percent, at the end of a line.
+fn end_line(pen: Pen, page: &mut [u8], hundredths: u64) -> Pen
+    ensures { λ r. ⌜ Wrote (now (page .entry)) (pen .at) (more (percentText hundredths ∷ [])) (now (page .exit)) (r .at) ⌝ }
+{
+    let parted = pen.byte(page, 32);
+    let told = put_percent(parted, page, hundredths);
+    told.byte(page, 10)
+}
+
+fn statement_line(pen: Pen, page: &mut [u8], items: u64, exceptions: u64, hundredths: u64) -> Pen
+    ensures { λ r. ⌜ Stated (now (page .entry)) (pen .at) (statementLine items exceptions hundredths) (now (page .exit)) (r .at) ⌝ }
+{
+    let opened = pen.text(page, b"statement");
+    let filled = opened.fields(page, &[items, exceptions]);
+    end_line(filled, page, hundredths)
+}
+
+// The statement, or the line of the bound's refusal.
+fn put_bound(pen: Pen, page: &mut [u8], items: u64, exceptions: u64, answer: BoundAnswer) -> Pen
+    ensures { λ r. ⌜ Stated (now (page .entry)) (pen .at) (boundText items exceptions (boundSays answer)) (now (page .exit)) (r .at) ⌝ }
+{
+    match answer {
+        BoundAnswer::Refused(why) => sheet::lines::refused_line(pen, page, why),
+        BoundAnswer::Hundredths(hundredths) => {
+            statement_line(pen, page, items, exceptions, hundredths)
+        }
+    }
+}
+
+fn put_statement(pen: Pen, page: &mut [u8], level: u8, tolerance: u8, exceptions: u64) -> Pen
+    ensures { λ r. ⌜ Stated (now (page .entry)) (pen .at) (statementText level tolerance exceptions) (now (page .exit)) (r .at) ⌝ }
+{
+    match attributes::size(level, tolerance) {
+        ItemsAnswer::Refused(why) => sheet::lines::refused_line(pen, page, why),
+        ItemsAnswer::Items(items) => put_bound(
+            pen,
+            page,
+            items,
+            exceptions,
+            attributes::bound(level, tolerance, exceptions),
+        ),
+    }
+}
+
+// The statement at the start of a page that holds every one, or the line of the first refusal; answers how many bytes it is.
+pub fn print_statement(
+    level: u8,
+    tolerance: u8,
+    exceptions: u64,
+    page: &mut [u8; LONGEST_STATEMENT],
+) -> usize
+    ensures { λ r. ⌜ Printed (statementText level tolerance exceptions) (now (page .entry)) r (now (page .exit)) ⌝ }
+{
+    let end = put_statement(Pen { at: 0 }, page, level, tolerance, exceptions);
+    end.at
+}

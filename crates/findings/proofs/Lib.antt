@@ -1,0 +1,5 @@
+-- What the proofs of several functions use, and what callers cite.
+pub mod Rules
+pub mod Posting
+pub mod Pairs
+pub mod Worked

@@ -1,0 +1,7 @@
+-- `findings::misplaced` meets its contract. Assumes nothing.
+use Rattle.findings.proofs.Rules.{placed-none, placed-drawn, placed-full}
+use Rattle.findings.proofs.misplaced.Statement.{statement}
+use Rattle.findings.proofs.misplaced.Tie as tie
+
+pub misplaced-spec : {M : Type 1} → statement M
+misplaced-spec = tie.close (tie.spec (λ c. search placed-none) (λ c. search placed-drawn) (λ c. search placed-full))

@@ -1,8 +1,8 @@
 #!/usr/bin/env python3
-"""The tables of docs/HANDBOOK.md for findings by the batch, on the practice ledger at start 25.
+"""The tables of docs/HANDBOOK.md for findings by the batch, on the practice ledger at start 25, and the text that examples/c/findings.c prints of it.
 
-    python3 tools/findings.py write      puts the tables into the page, each in the place of the one with its heading
-    python3 tools/findings.py check      compares the page with what is there, and the exercise on batches with its answer
+    python3 tools/findings.py write      puts the tables into the page, each in the place of the one with its heading, and writes examples/c/findings.out
+    python3 tools/findings.py check      compares both with what is there, and the exercise on batches with its answer
 """
 
 import sys
@@ -20,6 +20,8 @@ NONE = [0] * len(PRACTICE_LEDGER)
 FIRST = [(0, 7), (2, 10), (3, 5)]
 REFUSED = [(0, 7), (1, 3), (2, 10)]
 MENDED = [(3, 3), (2, 10)]
+SECOND = [(3, -2), (0, 9), (2, 0)]
+TEXT = ROOT / "examples/c/findings.out"
 EXERCISE = [(3, 5), (0, 8), (2, 40), (0, 7), (1, 2), (2, 10)]
 EXERCISE_MENDED = [(3, 2), (2, 10)]
 BATCHES = [
@@ -67,6 +69,16 @@ def batches_table():
     return table(["pairs, from errors of 0", "answer", "stay posted", "the errors then"], rows)
 
 
+def example_text():
+    """What the example in C prints: two batches of one team, the second with its pair mended, one of another, and the projection."""
+    errors, lines = NONE, []
+    for pairs in REFUSED, MENDED, SECOND:
+        answer, errors = after(pairs, errors)
+        refused = isinstance(answer, reference.Refusal)
+        lines += [reference.text_line("refused", *answer) if refused else reference.text_line("posted", answer.pairs), reference.text_line("errors", *errors)]
+    return "".join([*lines, reference.text_line("project", *reference.project(PRACTICE_LEDGER, DRAWS, START, errors))])
+
+
 def check_words(page):
     """The figures that the section tells beside its tables."""
     judged = reference.judge(LEVEL, PRACTICE_LEDGER, DRAWS, START, after(FIRST)[1], TE)
@@ -109,9 +121,12 @@ def main(arguments):
     made = with_tables(page, ["\n".join(lines) for lines in ways])
     if arguments == ["write"]:
         PAGE.write_text(made)
+        TEXT.write_text(example_text())
     elif made != page:
         sys.exit("docs/HANDBOOK.md does not hold what tools/findings.py writes")
-    print(f"findings: {len(ways)} tables as computed")
+    elif TEXT.read_text() != example_text():
+        sys.exit("examples/c/findings.out is not what the reference gives")
+    print(f"findings: {len(ways)} tables and the example's text as computed")
 
 
 if __name__ == "__main__":

@@ -2,4 +2,5 @@
 pub mod Rules
 pub mod Posting
 pub mod Pairs
+pub mod Answers
 pub mod Worked

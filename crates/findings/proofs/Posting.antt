@@ -10,8 +10,7 @@ use lib.ListN.{length, set}
 use lib.Signed.{mag}
 use Rattle.terms.specs.declared.Refusal.{Refusal}
 use Rattle.terms.specs.declared.Refusal.the-variants.{LengthsDiffer}
-use Rattle.terms.specs.Outcome.{Outcome, accepted, refused, refusedBy, after, left}
-use Rattle.terms.specs.Numbers.{pick}
+use Rattle.terms.specs.Outcome.{Outcome, accepted, refused, after, left}
 use Rattle.terms.proofs.Outcomes.{never}
 use Rattle.terms.proofs.Tests.{by-test}
 use Rattle.signed.proofs.Signs.{held, kept}
@@ -21,7 +20,7 @@ use Rattle.findings.specs.declared.PostAnswer.{PostAnswer}
 use Rattle.findings.specs.declared.PostAnswer.the-variants.{Posted, Refused}
 use Rattle.findings.specs.Findings.{postSays, pairSays, equallyLong, lineOf, postOf, PostPromise}
 use Rattle.findings.specs.Batch.{placedAt, PairPromise}
-use Rattle.findings.proofs.Rules.{same-long, long-same, stands-line, line-first}
+use Rattle.findings.proofs.Rules.{same-long, stands-line, line-first}
 
 -- the errors with a finding on a line
 abbrev pub posting : List ℤ → ℤ → ℕ → Outcome (List ℤ)

@@ -10,7 +10,7 @@ use lib.IntN.{ℤ}
 use lib.ListN.{length, getD}
 use lib.Signed.{mag}
 use Rattle.terms.specs.declared.Refusal.the-variants.{LineNotThere, ErrorAboveValue, ErrorNotDrawn}
-use Rattle.terms.specs.Outcome.{Outcome, accepted, refused}
+use Rattle.terms.specs.Outcome.{Outcome, accepted}
 use Rattle.terms.specs.Numbers.{pick}
 use Rattle.terms.proofs.Tests.{by-test}
 use Rattle.terms.proofs.Outcomes.{never}

@@ -8,20 +8,20 @@ use Rattle.signed.specs.Errors.{sizeOf}
 use Rattle.findings.specs.Findings.{lineOf, postOf}
 use Rattle.findings.specs.Batch.{Batch, pairsOf, postedFrom, postAllOf}
 
-abbrev claims : List ℕ
+abbrev pub claims : List ℕ
 claims = 30 ∷ 30 ∷ 40 ∷ 20 ∷ []
 
-abbrev drawn : List ℕ
+abbrev pub drawn : List ℕ
 drawn = 1 ∷ 0 ∷ 1 ∷ 1 ∷ []
 
-abbrev none : List ℤ
+abbrev pub none : List ℤ
 none = pos 0 ∷ pos 0 ∷ pos 0 ∷ pos 0 ∷ []
 
 -- a batch into no errors: what it says, and the errors afterwards
-abbrev batch : List ℕ → List ℤ → Batch
+abbrev pub batch : List ℕ → List ℤ → Batch
 batch lines found = postAllOf claims drawn none lines found
 
-abbrev gives : Outcome ℕ → List ℤ → Batch
+abbrev pub gives : Outcome ℕ → List ℤ → Batch
 gives says errors = record { says = says; errors = errors }
 
 -- the three findings of the practice case, and none at all

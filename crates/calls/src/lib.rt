@@ -168,7 +168,7 @@ fn of_post(r: PostResult) -> Answer {
 }
 
 pub fn post(ledger: &[u64], marks: &[u8], errors: &mut [i64], line: u64, error: i64) -> Answer {
-    of_post(results::findings::of_post(findings::post(ledger, marks, errors, line, error)))
+    of_post(results::posting::of_post(findings::post(ledger, marks, errors, line, error)))
 }
 
 pub fn post_all(
@@ -178,7 +178,7 @@ pub fn post_all(
     lines: &[u64],
     found: &[i64],
 ) -> Answer {
-    of_post(results::findings::of_post(findings::post_all(ledger, marks, errors, lines, found)))
+    of_post(results::posting::of_post(findings::post_all(ledger, marks, errors, lines, found)))
 }
 
 pub fn read(file: &[u8], words: &mut [u64], values: &mut [u64], errors: &mut [i64]) -> Answer {

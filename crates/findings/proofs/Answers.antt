@@ -3,7 +3,7 @@ use Prim.Native.Nat.{ℕ, suc}
 use mathlib.Core.Path.{_≡_, refl, sym, _∙_}
 use mathlib.Core.Bool.{false}
 use mathlib.Core.List.{List, [], _∷_}
-use lib.Dec.{T, eqb, leb, ltb}
+use lib.Dec.{eqb, leb, ltb}
 use lib.IntN.{ℤ}
 use lib.ListN.{length, getD}
 use Rattle.terms.specs.Outcome.{Outcome, accepted, refused}
@@ -33,22 +33,25 @@ pub post-all-once : {ledger marks : List ℕ} {errors : List ℤ} {lines : List 
     PostAllPromise ledger marks errors lines found r b → PostAllPromise ledger marks errors lines found s c → (r ≡ s) × (b ≡ c)
 post-all-once {r = r} {s = s} p q = (one-post r s (p .answer) (q .answer), p .errors-left ∙ sym (q .errors-left))
 
--- the refusals that posting gives
-pub postNumbers : List ℕ
-postNumbers = 13 ∷ 20 ∷ 14 ∷ 15 ∷ []
+-- the refusals that a pair gives, and that posting gives
+abbrev pub pairNumbers : List ℕ
+pairNumbers = 20 ∷ 14 ∷ 15 ∷ []
 
-line-gives : (ledger marks : List ℕ) (line : ℕ) (error : ℤ) → Gives postNumbers (lineOf ledger marks line error)
-unfolding lineOf postNumbers
+abbrev pub postNumbers : List ℕ
+postNumbers = 13 ∷ pairNumbers
+
+pub line-gives : (ledger marks : List ℕ) (line : ℕ) (error : ℤ) → Gives pairNumbers (lineOf ledger marks line error)
+unfolding lineOf
 line-gives ledger marks line error =
-    by-test (Gives postNumbers) (leb (length ledger) line) (λ t. tt)
-    (λ t. by-test (Gives postNumbers) (ltb (getD ledger line 0) (sizeOf error)) (λ u. tt)
-    (λ u. by-test (Gives postNumbers) (misplaced (getD marks line 0) (sizeOf error)) (λ v. tt) (λ v. tt)))
+    by-test (Gives pairNumbers) (leb (length ledger) line) (λ t. tt)
+    (λ t. by-test (Gives pairNumbers) (ltb (getD ledger line 0) (sizeOf error)) (λ u. tt)
+    (λ u. by-test (Gives pairNumbers) (misplaced (getD marks line 0) (sizeOf error)) (λ v. tt) (λ v. tt)))
 
 pub findings-gives : (ledger marks : List ℕ) (errors : List ℤ) (line : ℕ) (error : ℤ) → Gives postNumbers (postOf ledger marks errors line error)
-unfolding postOf postNumbers
+unfolding postOf
 findings-gives ledger marks errors line error =
     by-test (Gives postNumbers) (equallyLong (length ledger) (length marks) (length errors))
-    (λ t. gives-after postNumbers (posting errors error) (lineOf ledger marks line error) (line-gives ledger marks line error) (λ at. tt)) (λ t. tt)
+    (λ t. gives-after postNumbers (posting errors error) (lineOf ledger marks line error) (gives-among pairNumbers postNumbers tt (lineOf ledger marks line error) (line-gives ledger marks line error)) (λ at. tt)) (λ t. tt)
 
 -- a pair gives them at its position, and so does the batch
 then-gives : (position : ℕ) (next : List ℤ → Batch) (errors : List ℤ) (o : Outcome (List ℤ)) → Gives postNumbers o → ((posted : List ℤ) → Gives postNumbers (next posted .says)) →
@@ -64,7 +67,7 @@ from-gives ledger marks position errors (one ∷ later) =
     (λ posted. from-gives ledger marks (suc position) posted later)
 
 pub batch-gives : (ledger marks : List ℕ) (errors : List ℤ) (lines : List ℕ) (found : List ℤ) → Gives postNumbers (postAllOf ledger marks errors lines found .says)
-unfolding postAllOf postNumbers
+unfolding postAllOf
 batch-gives ledger marks errors lines found =
     by-test (λ (b : Batch). Gives postNumbers (b .says)) (pick (equallyLong (length ledger) (length marks) (length errors)) (eqb (length found) (length lines)) false)
     (λ t. from-gives ledger marks 0 errors (pairsOf lines found)) (λ t. tt)

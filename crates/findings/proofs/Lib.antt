@@ -3,4 +3,8 @@ pub mod Rules
 pub mod Posting
 pub mod Pairs
 pub mod Answers
+pub mod Batches
+pub mod Standing
+pub mod Stopping
+pub mod OneByOne
 pub mod Worked

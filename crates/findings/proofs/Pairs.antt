@@ -17,13 +17,14 @@ use Rattle.terms.specs.declared.Refusal.the-variants.{LengthsDiffer}
 use Rattle.terms.specs.Outcome.{Outcome, accepted, refused, after, left}
 use Rattle.terms.specs.Numbers.{pick}
 use Rattle.terms.proofs.Outcomes.{never}
+use Rattle.terms.proofs.Tests.{by-test}
 use Rattle.signed.proofs.Signs.{held, kept}
 use Rattle.findings.specs.declared.PostAnswer.{PostAnswer}
 use Rattle.findings.specs.declared.PostAnswer.the-variants.{Posted, Refused}
 use Rattle.findings.specs.Findings.{postSays, equallyLong, lineOf, postOf}
 use Rattle.findings.specs.Batch.{Pair, Batch, pairsOf, placedAt, postedThen, postedFrom, postAllOf, PairPromise, Postable, PairsPromise, PostAllPromise}
-use Rattle.findings.proofs.Rules.{long-told}
-use Rattle.findings.proofs.Posting.{posting, post-same}
+use Rattle.findings.proofs.Rules.{long-told, same-long}
+use Rattle.findings.proofs.Posting.{posting}
 
 -- clause by clause
 pub posted-none : (ledger marks : List ℕ) (position : ℕ) (errors : List ℤ) → postedFrom ledger marks position errors [] ≡ record { says = accepted position; errors = errors }
@@ -36,11 +37,11 @@ pub posted-more : (ledger marks : List ℕ) (position : ℕ) (errors : List ℤ)
 unfolding postedFrom
 posted-more ledger marks position errors one later = refl
 
-pairs-none : (found : List ℤ) → pairsOf [] found ≡ []
+pub pairs-none : (found : List ℤ) → pairsOf [] found ≡ []
 unfolding pairsOf
 pairs-none found = refl
 
-pairs-more : (line : ℕ) (lines : List ℕ) (found : List ℤ) → pairsOf (line ∷ lines) found ≡ record { line = line; error = getD found 0 (pos 0) } ∷ pairsOf lines (drop 1 found)
+pub pairs-more : (line : ℕ) (lines : List ℕ) (found : List ℤ) → pairsOf (line ∷ lines) found ≡ record { line = line; error = getD found 0 (pos 0) } ∷ pairsOf lines (drop 1 found)
 unfolding pairsOf
 pairs-more line lines found = refl
 
@@ -80,15 +81,16 @@ module _ (errors : List ℤ) (next : List ℤ → Batch) (position : ℕ) where
   then-posted (accepted a) e l = ap next (sym l)
   then-posted (refused m q) e l = never (sym e)
 
--- a posted list is as long as before
-posted-long : (ledger marks : List ℕ) (errors : List ℤ) (line : ℕ) (error : ℤ) → length marks ≡ length ledger → length errors ≡ length ledger →
-    length (left (λ posted. posted) errors (postOf ledger marks errors line error)) ≡ length ledger
-posted-long ledger marks errors line error m e =
-    ap (λ (o : Outcome (List ℤ)). length (left (λ posted. posted) errors o)) (post-same ledger marks errors line error m e) ∙ by (lineOf ledger marks line error)
+-- posted or not, there are as many errors as before
+pub post-long : (ledger marks : List ℕ) (errors : List ℤ) (line : ℕ) (error : ℤ) → length (left (λ posted. posted) errors (postOf ledger marks errors line error)) ≡ length errors
+unfolding postOf
+post-long ledger marks errors line error =
+    by-test (λ (o : Outcome (List ℤ)). length (left (λ posted. posted) errors o) ≡ length errors) (equallyLong (length ledger) (length marks) (length errors))
+    (λ t. by (lineOf ledger marks line error)) (λ t. refl)
   where
-    by : (o : Outcome ℕ) → length (left (λ posted. posted) errors (after (posting errors error) o)) ≡ length ledger
-    by (accepted at) = length-set errors at error ∙ e
-    by (refused n p) = e
+    by : (o : Outcome ℕ) → length (left (λ posted. posted) errors (after (posting errors error) o)) ≡ length errors
+    by (accepted at) = length-set errors at error
+    by (refused n p) = refl
 
 module _ {ledger marks : List ℕ} {errors₀ : List ℤ} {lines : List ℕ} {found : List ℤ} {position : ℕ} {errors : List ℤ}
     (at : Posting ledger marks errors₀ lines found position errors) where
@@ -119,11 +121,11 @@ module _ {ledger marks : List ℕ} {errors₀ : List ℤ} {lines : List ℕ} {fo
         let e = then-refused errors next position single (sym (ap postSays is) ∙ one .answer) (one .errors-left) ∙ on in
         record { answer = ap (λ (b : Batch). b .says) e; errors-left = ap (λ (b : Batch). b .errors) e }
 
-    pub posting-more : length marks ≡ length ledger → {n : ℕ} → r ≡ Posted n → Posting ledger marks errors₀ lines found (position + 1) errors′
-    posting-more marks-same is =
+    pub posting-more : {n : ℕ} → r ≡ Posted n → Posting ledger marks errors₀ lines found (position + 1) errors′
+    posting-more is =
         record {
           inside = omega arith;
-          same = ap length (one .errors-left) ∙ posted-long ledger marks errors _ _ marks-same (at .same);
+          same = ap length (one .errors-left) ∙ post-long ledger marks errors _ _ ∙ at .same;
           whole =
               ap (λ (k : ℕ). postedFrom ledger marks k errors′ (pairsFrom (position + 1) lines found)) (add-one position)
               ∙ sym (then-posted errors next position single (sym (ap postSays is) ∙ one .answer) (one .errors-left)) ∙ on;
@@ -131,10 +133,22 @@ module _ {ledger marks : List ℕ} {errors₀ : List ℤ} {lines : List ℕ} {fo
 
 -- as `post_all` meets them
 module _ (ledger marks : List ℕ) (errors : List ℤ) (lines : List ℕ) (found : List ℤ) where
+  -- where the lengths agree it is the pairs, posted from the first on
+  pub all-from : Postable ledger marks errors lines found → postAllOf ledger marks errors lines found ≡ postedFrom ledger marks 0 errors (pairsOf lines found)
+  unfolding postAllOf
+  all-from p = simp (same-long (length ledger) (length marks) (length errors) (p .marks-same) (p .errors-same), eq-eqb _ _ (p .found-same))
+
+  -- where they do not, nothing is posted
+  pub all-none : (pick (equallyLong (length ledger) (length marks) (length errors)) (eqb (length found) (length lines)) false) ≡ false →
+      postAllOf ledger marks errors lines found ≡ record { says = refused 13 0; errors = errors }
+  unfolding postAllOf
+  all-none e = simp e
+
   all-differ : (pick (equallyLong (length ledger) (length marks) (length errors)) (eqb (length found) (length lines)) false) ≡ false →
       PostAllPromise ledger marks errors lines found (Refused LengthsDiffer) errors
-  unfolding postAllOf
-  all-differ e = record { answer = simp e; errors-left = simp e }
+  all-differ e =
+      let same = sym (all-none e) in
+      record { answer = ap (λ (b : Batch). b .says) same; errors-left = ap (λ (b : Batch). b .errors) same }
 
   pub all-lengths : {b : Bool} → b ≡ equallyLong (length ledger) (length marks) (length errors) → not b ≡ true → PostAllPromise ledger marks errors lines found (Refused LengthsDiffer) errors
   all-lengths is t = all-differ (simp (sym is ∙ not-true _ t))
@@ -150,7 +164,6 @@ module _ (ledger marks : List ℕ) (errors : List ℤ) (lines : List ℕ) (found
           record { marks-same = both .0; errors-same = both .1; found-same = same }
 
       pub all-posted : {r : PostAnswer} {errors′ : List ℤ} → PairsPromise ledger marks errors lines found r errors′ → PostAllPromise ledger marks errors lines found r errors′
-      unfolding postAllOf
       all-posted p =
-          let e : postAllOf ledger marks errors lines found ≡ postedFrom ledger marks 0 errors (pairsOf lines found) = simp (sym is ∙ not-false _ t, eq-eqb _ _ same) in
+          let e = all-from all-postable in
           record { answer = p .answer ∙ sym (ap (λ (x : Batch). x .says) e); errors-left = p .errors-left ∙ sym (ap (λ (x : Batch). x .errors) e) }

@@ -7,4 +7,5 @@ pub mod Batches
 pub mod Standing
 pub mod Stopping
 pub mod OneByOne
+pub mod Laws
 pub mod Worked

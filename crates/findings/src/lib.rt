@@ -51,11 +51,13 @@ fn line_of(ledger: &[u64], marks: &[u8], position: u64, line: u64, error: i64) -
         return PairAnswer::Refused(Refusal::LineNotThere(position));
     }
     let item = line as usize;
+    let value = ledger[item];
     let size = signed::size_of(error);
-    if size > ledger[item] {
+    let outside = misplaced(marks[item], size);
+    if size > value {
         return PairAnswer::Refused(Refusal::ErrorAboveValue(position));
     }
-    if misplaced(marks[item], size) {
+    if outside {
         return PairAnswer::Refused(Refusal::ErrorNotDrawn(position));
     }
     PairAnswer::Line(item)

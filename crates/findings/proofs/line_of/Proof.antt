@@ -9,10 +9,10 @@ line-of-spec =
     tie.close
     (tie.spec
     (λ c. search line-not-there)
-    (λ c κs. search needs)
     (λ c. search needs) (λ c. search needs)
-    (λ c. search line-above)
+    (λ c κs. search needs)
     (λ c. search needs)
     (λ c κs. search needs)
+    (λ c. search line-above)
     (λ c. search line-not-drawn)
     (λ c. search line-passes))

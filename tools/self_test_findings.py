@@ -122,7 +122,7 @@ def findings_exchanged():
 
 
 def findings_projected():
-    """After an accepted batch from marks that the draw gave, the projection gives neither 14 nor 15 for a line that was posted."""
+    """From marks that the draw gave: after an accepted batch the projection is refused at no line that was posted; and errors that it takes it takes after any batch."""
     r, checked = Seeded(83), 0
     while checked < 300:
         ledger, n, marks, errors, lines, found = random_batch(r)
@@ -131,8 +131,9 @@ def findings_projected():
         if isinstance(answer, Posted) and lines:
             why = project(ledger, n, 0, left)
             same("no fault of a posted line", isinstance(why, Refusal) and why.place in lines, False)
-            same("nor of any, from errors that it takes", isinstance(why, Refusal) and wrong is errors, False)
             checked += 1
+        if not isinstance(project(ledger, n, 0, wrong), Refusal):
+            same("errors that are projected", isinstance(project(ledger, n, 0, left), Refusal), False)
 
 
 def run():

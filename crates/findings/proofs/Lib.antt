@@ -1,4 +1,5 @@
 -- What the proofs of several functions use, and what callers cite.
+pub mod Worked
 pub mod Rules
 pub mod Posting
 pub mod Pairs
@@ -8,4 +9,3 @@ pub mod Standing
 pub mod Stopping
 pub mod OneByOne
 pub mod Laws
-pub mod Worked

@@ -94,13 +94,6 @@ post-long ledger marks errors line error =
 
 module _ {ledger marks : List ℕ} {errors₀ : List ℤ} {lines : List ℕ} {found : List ℤ} {position : ℕ} {errors : List ℤ}
     (at : Posting ledger marks errors₀ lines found position errors) where
-  -- every pair is posted
-  pub posting-end : length lines ≤ position → PairsPromise ledger marks errors₀ lines found (Posted position) errors
-  posting-end h =
-      let e : _≡_ {A = Batch} (record { says = accepted position; errors = errors }) (postedFrom ledger marks 0 errors₀ (pairsOf lines found)) =
-      sym (ap (postedFrom ledger marks position errors) (pairs-end position lines found h) ∙ posted-none ledger marks position errors) ∙ at .whole in
-      record { answer = ap (λ (b : Batch). b .says) e; errors-left = ap (λ (b : Batch). b .errors) e }
-
   -- one pair more; its error was read from its bits
   module _ (more : position < length lines) (fits : mag (getD found position (pos 0)) < 2 ^ 63) {r : PostAnswer} {errors′ : List ℤ}
       (promise : PairPromise ledger marks errors position (getD lines position 0) (held (getD found position (pos 0))) r errors′) where
@@ -131,18 +124,28 @@ module _ {ledger marks : List ℕ} {errors₀ : List ℤ} {lines : List ℕ} {fo
               ∙ sym (then-posted errors next position single (sym (ap postSays is) ∙ one .answer) (one .errors-left)) ∙ on;
         }
 
+  -- every pair is posted
+  pub posting-end : length lines ≤ position → PairsPromise ledger marks errors₀ lines found (Posted position) errors
+  posting-end h =
+      let e : _≡_ {A = Batch} (record { says = accepted position; errors = errors }) (postedFrom ledger marks 0 errors₀ (pairsOf lines found)) =
+      sym (ap (postedFrom ledger marks position errors) (pairs-end position lines found h) ∙ posted-none ledger marks position errors) ∙ at .whole in
+      record { answer = ap (λ (b : Batch). b .says) e; errors-left = ap (λ (b : Batch). b .errors) e }
+
 -- as `post_all` meets them
 module _ (ledger marks : List ℕ) (errors : List ℤ) (lines : List ℕ) (found : List ℤ) where
   -- where the lengths agree it is the pairs, posted from the first on
   pub all-from : Postable ledger marks errors lines found → postAllOf ledger marks errors lines found ≡ postedFrom ledger marks 0 errors (pairsOf lines found)
   unfolding postAllOf
-  all-from p = simp (same-long (length ledger) (length marks) (length errors) (p .marks-same) (p .errors-same), eq-eqb _ _ (p .found-same))
+  all-from p =
+      let same : pick (equallyLong (length ledger) (length marks) (length errors)) (eqb (length found) (length lines)) false ≡ true =
+      ap (λ (b : Bool). pick b (eqb (length found) (length lines)) false) (same-long (length ledger) (length marks) (length errors) (p .marks-same) (p .errors-same)) ∙ eq-eqb _ _ (p .found-same) in
+      ap (λ (b : Bool). pick b (postedFrom ledger marks 0 errors (pairsOf lines found)) (record { says = refused 13 0; errors = errors })) same
 
   -- where they do not, nothing is posted
   pub all-none : (pick (equallyLong (length ledger) (length marks) (length errors)) (eqb (length found) (length lines)) false) ≡ false →
       postAllOf ledger marks errors lines found ≡ record { says = refused 13 0; errors = errors }
   unfolding postAllOf
-  all-none e = simp e
+  all-none e = ap (λ (b : Bool). pick b (postedFrom ledger marks 0 errors (pairsOf lines found)) (record { says = refused 13 0; errors = errors })) e
 
   all-differ : (pick (equallyLong (length ledger) (length marks) (length errors)) (eqb (length found) (length lines)) false) ≡ false →
       PostAllPromise ledger marks errors lines found (Refused LengthsDiffer) errors

@@ -11,6 +11,7 @@ use lib.Signed.{mag}
 use Rattle.terms.specs.declared.Refusal.{Refusal}
 use Rattle.terms.specs.declared.Refusal.the-variants.{LengthsDiffer}
 use Rattle.terms.specs.Outcome.{Outcome, accepted, refused, after, left}
+use Rattle.terms.specs.Numbers.{pick}
 use Rattle.terms.proofs.Outcomes.{never}
 use Rattle.terms.proofs.Tests.{by-test}
 use Rattle.signed.proofs.Signs.{held, kept}
@@ -52,11 +53,11 @@ module _ (ledger marks : List ℕ) (errors : List ℤ) (line : ℕ) (error : ℤ
   -- the lengths are judged first
   pub post-same : length marks ≡ length ledger → length errors ≡ length ledger → postOf ledger marks errors line error ≡ after (posting errors error) (lineOf ledger marks line error)
   unfolding postOf
-  post-same m e = simp (same-long (length ledger) (length marks) (length errors) m e)
+  post-same m e = ap (λ (b : Bool). pick b (after (posting errors error) (lineOf ledger marks line error)) (refused 13 0)) (same-long (length ledger) (length marks) (length errors) m e)
 
   pub post-differ : equallyLong (length ledger) (length marks) (length errors) ≡ false → postOf ledger marks errors line error ≡ refused 13 0
   unfolding postOf
-  post-differ e = simp e
+  post-differ e = ap (λ (b : Bool). pick b (after (posting errors error) (lineOf ledger marks line error)) (refused 13 0)) e
 
   -- a single pair is at position 0
   pub post-first : placedAt 0 (postOf ledger marks errors line error) ≡ postOf ledger marks errors line error
@@ -70,11 +71,6 @@ module _ (ledger marks : List ℕ) (errors : List ℤ) (line : ℕ) (error : ℤ
   post-lengths is t =
       let e = sym (post-differ (sym is ∙ not-true _ t)) in
       record { answer = ap (after (λ posted. accepted 1)) e; errors-left = ap (left (λ posted. posted) errors) e }
-
-  pub post-single : mag error < 2 ^ 63 → {r : PostAnswer} {errors′ : List ℤ} → PairPromise ledger marks errors 0 line (held error) r errors′ → PostPromise ledger marks errors line error r errors′
-  post-single fits {r} {errors′} told =
-      let p = subst (λ (z : ℤ). PairPromise ledger marks errors 0 line z r errors′) (kept error fits) told in
-      record { answer = p .answer ∙ ap (after (λ posted. accepted 1)) post-first; errors-left = p .errors-left }
 
   -- as `post_pair` meets it
   module _ (position : ℕ) (marks-same : length marks ≡ length ledger) (errors-same : length errors ≡ length ledger) where
@@ -101,3 +97,9 @@ module _ (ledger marks : List ℕ) (errors : List ℤ) (line : ℕ) (error : ℤ
         pair-posted =
             let x = accepted-by errors error position (lineOf ledger marks line error) (sym (ap pairSays is) ∙ says) in
             promised (Posted 1) (x .0, ap (set errors item) (kept error fits) ∙ x .1)
+
+  -- and as `post` does: its one pair is at position 0
+  pub post-single : mag error < 2 ^ 63 → {r : PostAnswer} {errors′ : List ℤ} → PairPromise ledger marks errors 0 line (held error) r errors′ → PostPromise ledger marks errors line error r errors′
+  post-single fits {r} {errors′} told =
+      let p = subst (λ (z : ℤ). PairPromise ledger marks errors 0 line z r errors′) (kept error fits) told in
+      record { answer = p .answer ∙ ap (after (λ posted. accepted 1)) post-first; errors-left = p .errors-left }

@@ -107,12 +107,13 @@ fn post_pairs(
 {
     let mut position: usize = 0;
     while position < lines.len() {
+        let later = position + 1;
         let at = position as u64;
         match post_pair(ledger, marks, errors, at, lines[position], found[position]) {
             PostAnswer::Refused(why) => return PostAnswer::Refused(why),
             PostAnswer::Posted(_) => {}
         }
-        position += 1;
+        position = later;
     }
     PostAnswer::Posted(position as u64)
 }

@@ -4,15 +4,17 @@ use Rattle.findings.proofs.Rules.{line-not-there, line-above, line-not-
 use Rattle.findings.proofs.line_of.Statement.{statement}
 use Rattle.findings.proofs.line_of.Tie as tie
 
+ruleset rules = (line-not-there, line-above, line-not-drawn, line-passes)
+
 pub line-of-spec : {M : Type 1} → statement M
 line-of-spec =
     tie.close
     (tie.spec
-    (λ c. search line-not-there)
+    (λ c. search rules)
     (λ c. search needs) (λ c. search needs)
     (λ c κs. search needs)
     (λ c. search needs)
     (λ c κs. search needs)
-    (λ c. search line-above)
-    (λ c. search line-not-drawn)
-    (λ c. search line-passes))
+    (λ c. search rules)
+    (λ c. search rules)
+    (λ c. search rules))

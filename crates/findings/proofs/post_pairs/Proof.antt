@@ -18,11 +18,12 @@ post-pairs-spec =
     tie.close
     (tie.spec Inv-loop μ-loop
     (λ c. search posting-none)
+    (λ c. search needs)
     (λ c. search needs) (λ c. search needs) (λ c. search needs) (λ c. search needs)
     (λ c κs. search needs)
     (λ c. search needs) (λ c. search needs)
     (λ c. search posting-stops)
-    (λ c. search needs) (λ c. search needs) (λ c. search needs)
+    (λ c. search needs) (λ c. search needs)
     (λ c. search posting-more)
     (λ c. search needs)
     (λ c. search posting-end))

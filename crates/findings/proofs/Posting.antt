@@ -103,3 +103,7 @@ module _ (ledger marks : List ℕ) (errors : List ℤ) (line : ℕ) (error : ℤ
   post-single fits {r} {errors′} told =
       let p = subst (λ (z : ℤ). PairPromise ledger marks errors 0 line z r errors′) (kept error fits) told in
       record { answer = p .answer ∙ ap (after (λ posted. accepted 1)) post-first; errors-left = p .errors-left }
+
+  -- as an export meets it: the error that it hands on was read from its bits
+  pub post-read : mag error < 2 ^ 63 → {r : PostAnswer} {errors′ : List ℤ} → PostPromise ledger marks errors line (held error) r errors′ → PostPromise ledger marks errors line error r errors′
+  post-read fits {r} {errors′} told = subst (λ (z : ℤ). PostPromise ledger marks errors line z r errors′) (kept error fits) told

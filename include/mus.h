@@ -26,9 +26,11 @@
  *     mus_project               616   224 + 48 r            4,544
  *     mus_project_lines         664   272 + 48 r            4,592
  *     mus_judge               1,560   1,168 + 48 r          5,488
- *     mus_strata_plan         7,696   7,648 + 48 r         11,968
+ *     mus_strata_plan         7,792   7,744 + 48 r         12,064
  *     mus_strata_draw         6,512   6,464 + 48 r         10,784
  *     mus_strata_project     10,912   10,864 + 48 r        15,184
+ *     mus_post                   72
+ *     mus_post_all              128
  *     mus_tally_none            296
  *     mus_tally_add           1,752
  *     mus_attribute_size         80

@@ -1,17 +1,18 @@
 -- The level and the tolerance of a place in table 1. Assumes nothing.
-use mathlib.Core.Path.{_≡_, sym, ap, _∙_}
+use mathlib.Core.Path.{_≡_, refl, sym, ap, _∙_}
 use mathlib.Core.List.{List, [], _∷_}
 use Prim.Native.Nat.{ℕ, zero, suc, _+_, _*_, _/_, _%_, _<_}
 use native.Mathlib.Omega.{arith}
 use lib.Arith.{digits-div, digits-mod}
 use lib.Dec.{eqb}
 use lib.ListN.{length, getD}
-use borrow.Author.Tests.{eqb-true}
-use Rattle.terms.specs.Outcome.{Outcome, accepted, after}
+use borrow.Author.Tests.{eqb-true, ne-eqb}
+use Rattle.terms.specs.Numbers.{AllUpTo}
+use Rattle.terms.specs.Outcome.{Outcome, accepted, refused, after}
 use Rattle.terms.proofs.Tests.{by-test}
 use Rattle.terms.proofs.Outcomes.{never, after-accepted}
 use Rattle.attributes.specs.Table.{levels, tolerances}
-use Rattle.attributes.specs.Attributes.{placeIn, levelPlace, tolerancePlace, entryAcross, entryPlace}
+use Rattle.attributes.specs.Attributes.{placeIn, levelPlace, tolerancePlace, entryAcross, entryPlace, itemsAt, itemsOf, boundAt, boundOf}
 
 -- the list has v at place i
 pub record StandsAt (xs : List ℕ) (v i : ℕ) : Type 0 where
@@ -81,3 +82,33 @@ placed level tolerance place e =
 pub in-place : (level tolerance column : ℕ) {o : Outcome ℕ} → accepted column ≡ levelPlace level → o ≡ tolerancePlace tolerance → after (λ row. accepted (row * 3 + column)) o ≡ entryPlace level tolerance
 unfolding entryPlace entryAcross
 in-place level tolerance column c r = ap (after (λ row. accepted (row * 3 + column))) r ∙ ap (after (entryAcross tolerance)) c
+
+-- a number above all of a list has no place in it
+none-past : (why : ℕ) (xs : List ℕ) {v : ℕ} → AllUpTo 255 xs → 255 < v → placeIn why xs v ≡ refused why 0
+unfolding placeIn
+none-past why [] small past = refl
+none-past why (x ∷ xs) {v} small past =
+    rw (ne-eqb v x (λ e. omega (arith, small .0, e))) (ap (after (λ i. accepted (suc i))) (none-past why xs (small .1) past))
+
+-- so what is no byte is as little a level, or a tolerance, as 0 is
+pub level-past : {v : ℕ} → 255 < v → levelPlace v ≡ levelPlace 0
+unfolding levelPlace placeIn levels
+level-past past = none-past 1 levels (omega arith, (omega arith, (omega arith, tt))) past
+
+pub tolerance-past : {v : ℕ} → 255 < v → tolerancePlace v ≡ tolerancePlace 0
+unfolding tolerancePlace placeIn tolerances
+tolerance-past past = none-past 25 tolerances (omega arith, (omega arith, (omega arith, (omega arith, (omega arith, tt))))) past
+
+-- both tables are read by the two places alone
+module _ (level level′ tolerance tolerance′ : ℕ) (a : levelPlace level ≡ levelPlace level′) (b : tolerancePlace tolerance ≡ tolerancePlace tolerance′) where
+  entry-by-place : entryPlace level tolerance ≡ entryPlace level′ tolerance′
+  unfolding entryPlace entryAcross
+  entry-by-place = λ i. after (λ column. after (λ row. accepted (row * 3 + column)) (b i)) (a i)
+
+  pub items-by-place : itemsOf level tolerance ≡ itemsOf level′ tolerance′
+  unfolding itemsOf
+  items-by-place = ap (after itemsAt) entry-by-place
+
+  pub bound-by-place : (exceptions : ℕ) → boundOf level tolerance exceptions ≡ boundOf level′ tolerance′ exceptions
+  unfolding boundOf
+  bound-by-place exceptions = ap (after (boundAt exceptions)) entry-by-place

@@ -207,6 +207,7 @@ no-freedom =
       attribute-size = λ _ _ _ _ p q. items-once p q;
       attribute-bound = λ _ _ _ _ _ p q. bound-once p q;
       statement = λ _ _ _ _ _ _ _ _ p q. printed-once p q;
+      answer-line = λ _ _ _ _ _ _ p q. (p .answer ∙ sym (q .answer), p .page-left ∙ sym (q .page-left));
       read = reads-once;
       write = writes-once;
       write-then-read = written-then-read-once;

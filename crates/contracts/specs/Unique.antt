@@ -23,6 +23,7 @@ use Rattle.season.specs.Tally.{noTally}
 use Rattle.season.specs.Add.{entryOf, addOf, AddPromise}
 use Rattle.attributes.specs.Attributes.{itemsSays, boundSays, ItemsPromise, BoundPromise}
 use Rattle.confidence.specs.Confidence.{statementText}
+use Rattle.confidence.specs.Line.{LinePromise}
 use Rattle.filing.specs.Filing.{filesOf}
 use Rattle.overview.specs.Overview.{overviewText}
 use Rattle.strata.specs.declared.Row.{Row}
@@ -90,6 +91,7 @@ pub record NoFreedom : Type 0 where
   pub attribute-size : (level tolerance : ℕ) → One (ItemsPromise level tolerance)
   pub attribute-bound : (level tolerance exceptions : ℕ) → One (BoundPromise level tolerance exceptions)
   pub statement : (level tolerance exceptions : ℕ) (page : List ℕ) → OneWith (Printed (statementText level tolerance exceptions) page)
+  pub answer-line : (text page : List ℕ) → OneWith (LinePromise text page)
   -- the working file, its sheet, and the text
   pub read : (file words values : List ℕ) (errors : List ℤ) → OneWith (λ r (b : Three). ReadPromise file words values errors r (b .0) (b .1) (b .2))
   pub write : (plan : Plan) (words values : List ℕ) (errors : List ℤ) (file : List ℕ) → OneWith (WritePromise plan words values errors file)

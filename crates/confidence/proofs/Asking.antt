@@ -1,6 +1,6 @@
 -- From the first line of a text to its answer, and a byte in the place of a number. Assumes nothing.
 use Prim.Native.Nat.{ℕ, _≤_, _<_}
-use mathlib.Core.Path.{_≡_, refl, sym, ap, subst, _∙_}
+use mathlib.Core.Path.{_≡_, sym, ap, subst, _∙_}
 use mathlib.Core.List.{List}
 use native.Mathlib.Omega.{arith}
 use lib.ListN.{length, take, drop, length-append}
@@ -16,7 +16,7 @@ use Rattle.pen.specs.Page.{Printed}
 use Rattle.sheet.specs.Sheet.{textBy}
 use Rattle.confidence.specs.declared.LineAnswer.{LineAnswer}
 use Rattle.confidence.specs.Confidence.{boundText, statementText, longestStatement, Stated}
-use Rattle.confidence.specs.Line.{StandsFor, askedOf, answerText, lineSays, pageWith, LinePromise}
+use Rattle.confidence.specs.Line.{StandsFor, askedOf, answerText, answerOf, pageWith, LinePromise}
 use Rattle.confidence.proofs.Writing.{statement-printed}
 
 -- a number above every byte
@@ -24,15 +24,15 @@ pub zero-stands : {number : ℕ} → 255 < number → StandsFor number 0
 zero-stands past = record { as-level = sym (level-past past); as-tolerance = sym (tolerance-past past) }
 
 -- the bytes have the statement of their numbers
-module _ {level tolerance column row : ℕ} (a : StandsFor level column) (b : StandsFor tolerance row) (exceptions : ℕ) where
-  same-statement : statementText column row exceptions ≡ statementText level tolerance exceptions
+module _ {level tolerance level-byte tolerance-byte : ℕ} (a : StandsFor level level-byte) (b : StandsFor tolerance tolerance-byte) (exceptions : ℕ) where
+  same-statement : statementText level-byte tolerance-byte exceptions ≡ statementText level tolerance exceptions
   unfolding statementText
   same-statement =
-      let sized : itemsOf column row ≡ itemsOf level tolerance = items-by-place _ _ _ _ (a .as-level) (b .as-tolerance) in
-      let bounded : boundOf column row exceptions ≡ boundOf level tolerance exceptions = bound-by-place _ _ _ _ (a .as-level) (b .as-tolerance) exceptions in
+      let sized : itemsOf level-byte tolerance-byte ≡ itemsOf level tolerance = items-by-place _ _ _ _ (a .as-level) (b .as-tolerance) in
+      let bounded : boundOf level-byte tolerance-byte exceptions ≡ boundOf level tolerance exceptions = bound-by-place _ _ _ _ (a .as-level) (b .as-tolerance) exceptions in
       λ i. textBy (λ items. boundText items exceptions (bounded i)) (sized i)
 
-  pub numbers-printed : {page page′ : List ℕ} {r : ℕ} → longestStatement ≤ length page → Stated page 0 (statementText column row exceptions) page′ r →
+  pub numbers-printed : {page page′ : List ℕ} {r : ℕ} → longestStatement ≤ length page → Stated page 0 (statementText level-byte tolerance-byte exceptions) page′ r →
       Printed (statementText level tolerance exceptions) page r page′
   numbers-printed {page} {page′} {r} room w =
       subst (λ (text : List ℕ). Printed text page r page′) same-statement (statement-printed _ _ _ room w)
@@ -49,19 +49,19 @@ first-asked {text} {end} run e =
 
 module _ {text : List ℕ} {q : NumbersAnswer} (read : q ≡ askedOf text) (page : List ℕ) where
   pub not-asked : {wrong : Wrong} → q ≡ NumbersAnswer.Unread wrong → LinePromise text page LineAnswer.NoLine page
-  not-asked is = let told = sym read ∙ is in record { answer = sym (ap lineSays told); page-left = sym (ap (pageWith page) told) }
+  not-asked is = let told = sym read ∙ is in record { answer = sym (ap answerOf told); page-left = sym (ap (pageWith page) told) }
 
   pub line-answered : {asked : Numbers} {bytes : ℕ} {page′ : List ℕ} → q ≡ NumbersAnswer.Read asked → Printed (answerText asked) page bytes page′ →
       LinePromise text page (LineAnswer.Answered bytes) page′
   line-answered is p =
       let told = sym read ∙ is in
       record {
-        answer = ap LineAnswer.Answered (p .counted) ∙ sym (ap lineSays told);
+        answer = ap LineAnswer.Answered (p .counted) ∙ sym (ap answerOf told);
         page-left = p .whole ∙ sym (ap (pageWith page) told);
       }
 
 -- an answer is within its page, whatever the line asked for
-within : (q : NumbersAnswer) (page : List ℕ) {page′ : List ℕ} {bytes : ℕ} → LineAnswer.Answered bytes ≡ lineSays q → page′ ≡ pageWith page q → bytes ≤ length page′
+within : (q : NumbersAnswer) (page : List ℕ) {page′ : List ℕ} {bytes : ℕ} → LineAnswer.Answered bytes ≡ answerOf q → page′ ≡ pageWith page q → bytes ≤ length page′
 within (NumbersAnswer.Read asked) page {page′} {bytes} told left =
     let many : bytes ≡ length (answerText asked) = cc in
     omega (arith, many, ap length left, length-append (answerText asked) (drop (length (answerText asked)) page))

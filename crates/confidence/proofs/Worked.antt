@@ -3,7 +3,7 @@ use mathlib.Core.Path.{_≡_, refl}
 use Rattle.pen.specs.Letters.{letters}
 use Rattle.pen.specs.Text.{decimal, decimalIn}
 use Rattle.attributes.specs.Table.{levels, tolerances, sizes, bounds}
-use Rattle.attributes.specs.Attributes.{placeIn, levelPlace, tolerancePlace, entryAcross, entryPlace, itemsAt, itemsOf, boundAt, boundOf}
+use Rattle.attributes.specs.Attributes.{placeFrom, levelPlace, tolerancePlace, entryPlace, itemsOf, boundAt, boundOf}
 use Rattle.entry.specs.declared.NumbersAnswer.{NumbersAnswer}
 use Rattle.entry.specs.declared.Wrong.{Wrong}
 use Rattle.entry.specs.Text.{blank, opens, fieldsOf, goesOn}
@@ -13,7 +13,7 @@ use Rattle.confidence.specs.Confidence.{percentText, statementLine, stat
 use Rattle.confidence.specs.Line.{askedOf}
 
 pub forty-five : statementText 90 5 2 ≡ letters "statement 45 2 11.40\n"
-unfolding statementText statementLine percentText decimal decimalIn itemsOf itemsAt boundOf boundAt entryPlace entryAcross tolerancePlace levelPlace placeIn levels tolerances sizes bounds
+unfolding statementText statementLine percentText decimal decimalIn itemsOf boundOf boundAt entryPlace tolerancePlace levelPlace placeFrom levels tolerances sizes bounds
 forty-five = refl
 
 pub two-decimals : statementLine 76 1 503 ≡ letters "statement 76 1 5.03\n"
@@ -21,12 +21,12 @@ unfolding statementLine percentText decimal decimalIn
 two-decimals = refl
 
 pub told : statementText 90 2 11 ≡ letters "refused 25 0\n"
-unfolding statementText decimal decimalIn itemsOf itemsAt boundOf boundAt entryPlace entryAcross tolerancePlace levelPlace placeIn levels tolerances sizes bounds
+unfolding statementText decimal decimalIn itemsOf boundOf boundAt entryPlace tolerancePlace levelPlace placeFrom levels tolerances sizes bounds
 told = refl
 
 -- 346 is 90 and 256, and no level
 pub no-byte : statementText 346 5 2 ≡ letters "refused 1 0\n"
-unfolding statementText decimal decimalIn itemsOf itemsAt boundOf boundAt entryPlace entryAcross tolerancePlace levelPlace placeIn levels tolerances sizes bounds
+unfolding statementText decimal decimalIn itemsOf boundOf boundAt entryPlace tolerancePlace levelPlace placeFrom levels tolerances sizes bounds
 no-byte = refl
 
 -- blanks are passed over, and only the first line is read

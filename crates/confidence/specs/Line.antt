@@ -26,9 +26,9 @@ abbrev pub answerText : Numbers → List ℕ
 answerText asked = statementText (asked .first) (asked .second) (asked .third)
 
 -- how long it is, and the page with it; to a line that is none nothing is written
-abbrev pub lineSays : NumbersAnswer → LineAnswer
-lineSays (NumbersAnswer.Read asked) = LineAnswer.Answered (length (answerText asked))
-lineSays (NumbersAnswer.Unread wrong) = LineAnswer.NoLine
+abbrev pub answerOf : NumbersAnswer → LineAnswer
+answerOf (NumbersAnswer.Read asked) = LineAnswer.Answered (length (answerText asked))
+answerOf (NumbersAnswer.Unread wrong) = LineAnswer.NoLine
 
 abbrev pub pageWith : List ℕ → NumbersAnswer → List ℕ
 pageWith page (NumbersAnswer.Read asked) = answerText asked ++ drop (length (answerText asked)) page
@@ -36,5 +36,5 @@ pageWith page (NumbersAnswer.Unread wrong) = page
 
 -- what is promised of a text
 pub record LinePromise (text page : List ℕ) (r : LineAnswer) (page′ : List ℕ) : Type 0 where
-  pub answer : r ≡ lineSays (askedOf text)
+  pub answer : r ≡ answerOf (askedOf text)
   pub page-left : page′ ≡ pageWith page (askedOf text)

@@ -94,9 +94,9 @@ pub fn print_statement(
 ) -> usize
     ensures { λ r. ⌜ Printed (statementText level tolerance exceptions) (now (page .entry)) r (now (page .exit)) ⌝ }
 {
-    let column = byte_of(level);
-    let row = byte_of(tolerance);
-    let end = put_statement(Pen { at: 0 }, page, column, row, exceptions);
+    let level_byte = byte_of(level);
+    let tolerance_byte = byte_of(tolerance);
+    let end = put_statement(Pen { at: 0 }, page, level_byte, tolerance_byte, exceptions);
     end.at
 }
 

@@ -7,9 +7,8 @@ use lib.ListN.{length, take, drop, length-append}
 use lib.Seq.{length-take-le}
 use Rattle.entry.specs.declared.{Numbers.Numbers, NumbersAnswer.NumbersAnswer, Wrong.Wrong}
 use Rattle.entry.specs.declared.Run.the-variants.{Line}
-use Rattle.entry.specs.Text.{fieldsOf}
 use Rattle.entry.specs.Records.{noNumbers, numbersFrom}
-use Rattle.entry.specs.Steps.{runOf, Reached, fieldsAt, lineOf}
+use Rattle.entry.specs.Steps.{runOf, Reached, fieldsAt}
 use Rattle.attributes.specs.Attributes.{itemsOf, boundOf}
 use Rattle.attributes.proofs.Places.{level-past, tolerance-past, items-by-place, bound-by-place}
 use Rattle.pen.specs.Page.{Printed}
@@ -42,10 +41,10 @@ pub line-long : {text : List ℕ} {end : ℕ} → Reached Line text 0 end → en
 line-long {text} {end} run = sym (length-take-le end text (run .within))
 
 pub first-asked : {text : List ℕ} {end : ℕ} {r : NumbersAnswer} → Reached Line text 0 end → r ≡ numbersFrom 3 noNumbers (fieldsAt (take end text) 0) → r ≡ askedOf text
-unfolding askedOf fieldsAt lineOf
+unfolding askedOf
 first-asked {text} {end} run e =
     let ends : end ≡ runOf Line text = omega (arith, run .same) in
-    e ∙ ap (λ (k : ℕ). numbersFrom 3 noNumbers (fieldsOf (take k text))) ends
+    e ∙ ap (λ (k : ℕ). numbersFrom 3 noNumbers (fieldsAt (take k text) 0)) ends
 
 module _ {text : List ℕ} {q : NumbersAnswer} (read : q ≡ askedOf text) (page : List ℕ) where
   pub not-asked : {wrong : Wrong} → q ≡ NumbersAnswer.Unread wrong → LinePromise text page LineAnswer.NoLine page

@@ -8,7 +8,7 @@ use Rattle.entry.specs.declared.NumbersAnswer.{NumbersAnswer}
 use Rattle.entry.specs.declared.Wrong.{Wrong}
 use Rattle.entry.specs.Text.{blank, opens, fieldsOf, goesOn}
 use Rattle.entry.specs.Records.{numberFrom, numberOf, numbersFrom}
-use Rattle.entry.specs.Steps.{runOf, lineOf}
+use Rattle.entry.specs.Steps.{runOf, fieldsAt}
 use Rattle.confidence.specs.Confidence.{percentText, statementLine, statementText}
 use Rattle.confidence.specs.Line.{askedOf}
 
@@ -31,9 +31,9 @@ no-byte = refl
 
 -- blanks are passed over, and only the first line is read
 pub line-asked : askedOf (letters " 90  5 2 \n95") ≡ NumbersAnswer.Read (record { first = 90; second = 5; third = 2 })
-unfolding askedOf lineOf runOf goesOn fieldsOf opens blank numbersFrom numberOf numberFrom
+unfolding askedOf runOf goesOn fieldsAt fieldsOf opens blank numbersFrom numberOf numberFrom
 line-asked = refl
 
 pub number-lacking : askedOf (letters "90 5\n") ≡ NumbersAnswer.Unread Wrong.NumberMissing
-unfolding askedOf lineOf runOf goesOn fieldsOf opens blank numbersFrom numberOf numberFrom
+unfolding askedOf runOf goesOn fieldsAt fieldsOf opens blank numbersFrom numberOf numberFrom
 number-lacking = refl

@@ -2,11 +2,10 @@
 use Prim.Native.Nat.{ℕ}
 use mathlib.Core.Path.{_≡_}
 use mathlib.Core.List.{List, _++_}
-use lib.ListN.{length, drop}
-use Rattle.entry.specs.declared.{Numbers.Numbers, NumbersAnswer.NumbersAnswer}
-use Rattle.entry.specs.Text.{fieldsOf}
+use lib.ListN.{length, take, drop}
+use Rattle.entry.specs.declared.{Run.Run, Numbers.Numbers, NumbersAnswer.NumbersAnswer}
 use Rattle.entry.specs.Records.{noNumbers, numbersFrom}
-use Rattle.entry.specs.Steps.{lineOf}
+use Rattle.entry.specs.Steps.{runOf, fieldsAt}
 use Rattle.attributes.specs.Attributes.{levelPlace, tolerancePlace}
 use Rattle.confidence.specs.declared.LineAnswer.{LineAnswer}
 use Rattle.confidence.specs.Confidence.{statementText}
@@ -16,10 +15,10 @@ pub record StandsFor (number byte : ℕ) : Type 0 where
   pub as-level : levelPlace byte ≡ levelPlace number
   pub as-tolerance : tolerancePlace byte ≡ tolerancePlace number
 
--- the first line of a text as exactly three numbers between blanks
+-- the first line of a text, up to its newline, as exactly three numbers between blanks
 unfoldable pub askedOf : List ℕ → NumbersAnswer
-unfolding numbersFrom fieldsOf lineOf
-askedOf text = numbersFrom 3 noNumbers (fieldsOf (lineOf text 0))
+unfolding numbersFrom fieldsAt runOf
+askedOf text = numbersFrom 3 noNumbers (fieldsAt (take (runOf Run.Line text) text) 0)
 
 -- their statement, or the line of the first refusal: level, tolerance, exceptions, in this order
 abbrev pub answerText : Numbers → List ℕ

@@ -14,6 +14,7 @@ main-spec =
     (λ c κs. search needs)
     (λ c κs. search needs)
     (λ c. search needs)
+    (λ c. search needs)
     (λ c. search (needs, answer-fits))
     (λ c. search (needs, answer-part))
     (λ c κs. search needs)

@@ -2,8 +2,9 @@
  *
  * Every function is total: it takes any input and returns a struct by value. `refusal` is 0 where the call is accepted, and then
  * the figures are the answer. Otherwise `refusal` is a number of enum mus_refusal, `place` says where (a line, a byte, a count;
- * 0 where the refusal names none), every figure is 0, and every lent buffer keeps its former content. Where several refusals
- * apply, the first is given in this order: 1, 22, 30, 2, 13; then 3 and 4 line by line; then 5 to 8, 23, 11; then 14 and 15 line by line; then 16.
+ * 0 where the refusal names none), every figure is 0 but those of a tally, which is handed back as it was, and every lent buffer keeps
+ * its former content. Where several refusals apply, the first is given in this order: 27, 1, 22, 30, 2, 13; then 3 and 4 line by line;
+ * then 5 to 8, 23, 11; then 14 and 15 line by line; then 16; then 28.
  *
  * Money and numbers of draws are 64-bit, money in whole cents. Lines are numbered from 0. An error has a sign: above 0 the line is
  * overstated, too much was claimed; below 0 it is understated, too little; 0 is no error. A list is a pointer and a number of entries;
@@ -27,6 +28,8 @@
  *     mus_strata_plan        7,696   7,648 + 48 r         11,968
  *     mus_strata_draw        6,512   6,464 + 48 r         10,784
  *     mus_strata_project    10,912   10,864 + 48 r        15,184
+ *     mus_tally_none           296
+ *     mus_tally_add          1,752
  *     mus_read                 288
  *     mus_write                136
  *     mus_sheet             34,920   34,656 + 48 r        38,976
@@ -49,6 +52,7 @@ extern "C" {
 #define MUS_MOST_INTERVAL UINT64_C(1000000000000000)
 #define MUS_MOST_ERRORS UINT64_C(63)
 #define MUS_MOST_STRATA 32
+#define MUS_MOST_JUDGEMENTS UINT64_C(1000000)
 
 /* The rounds that a split makes at most, whatever the ledger and the number of draws. */
 #define MUS_MOST_ROUNDS UINT64_C(90)
@@ -85,6 +89,8 @@ enum mus_refusal {
     MUS_NO_LEGAL_FILE = 19,         /* the content has no legal file */
     MUS_STRATA_OUT_OF_RANGE = 22,   /* there are no strata, or more than MUS_MOST_STRATA */
     MUS_TOO_FEW_DRAWS = 23,         /* there are fewer draws than strata with book value */
+    MUS_TOO_MANY_JUDGEMENTS = 27,   /* the tally holds MUS_MOST_JUDGEMENTS already, refused ones included */
+    MUS_SUM_TOO_LARGE = 28,         /* a sum of the tally would pass 64 bits */
     MUS_COUNTS_DO_NOT_ADD = 30      /* the counts of the strata do not add to the ledger's lines */
 };
 
@@ -172,6 +178,25 @@ struct mus_strata_project_result {
     struct mus_stratum_projection stratum[MUS_MOST_STRATA]; /* a row for each; past the last all 0 */
 };
 
+/* The tally of a season: three counts a level, below, inconclusive, above, for the levels 99, 95, 90, 85, 80, 75, 70, 60, 50 in this order; so
+ * counts[3 * row + verdict - 1]. worst is the place of the judgement whose limit is the largest share of its book, compared exactly, the
+ * earliest on a tie: places from 0, refused ones counted; all three are 0 while there is none. */
+struct mus_tally {
+    uint64_t counts[27];
+    uint64_t books;       /* the books judged, added */
+    uint64_t limits;      /* their upper limits, added */
+    uint64_t refused;     /* judgements that were refused */
+    uint64_t added;       /* all that were added, refused ones included */
+    uint64_t worst;       /* the place of the largest share */
+    uint64_t worst_limit; /* its limit */
+    uint64_t worst_book;  /* its book */
+};
+
+struct mus_tally_result {
+    uint64_t refusal, place;
+    struct mus_tally tally; /* with the judgement added; where the call is refused, the tally that was handed in */
+};
+
 struct mus_read_result {
     uint64_t refusal, place;
     uint64_t level, te, ae;
@@ -234,6 +259,15 @@ struct mus_strata_draw_result mus_strata_draw(const uint64_t *ledger, size_t led
 /* The projection of each stratum, and over all of them. Refusals 22, 30, 2, 13 (for errors or starts), 3, 4, 5, 8, 23, 11 with the first wrong
  * stratum, 14, 15. */
 struct mus_strata_project_result mus_strata_project(const uint64_t *ledger, size_t ledger_length, const uint64_t *counts, size_t counts_length, uint64_t n, const uint64_t *starts, size_t starts_length, const int64_t *errors, size_t errors_length);
+
+/* The tally before the first judgement. */
+struct mus_tally mus_tally_none(void);
+
+/* The tally with one judgement more: its level, the total of its book, its upper limit and its verdict, one of enum mus_verdict. Any other
+ * verdict stands for a judgement that was refused: so level, book and what mus_judge returned can be handed on as they are. One that was refused is
+ * counted in refused and added alone, and meets only 27. Any tally is taken, made by this call or not. Refusals 27, 1, 5 for a book
+ * of 0, 28 where a sum or a count would pass 64 bits. */
+struct mus_tally_result mus_tally_add(struct mus_tally tally, uint8_t level, uint64_t book, uint64_t limit, uint64_t verdict);
 
 /* Reads a working file. words has room for at least MUS_MOST_WORDS entries, values and errors for at least MUS_MOST_FILE_LINES; entries
  * past those read stay as they were. A line with a record E gets its error, one with U its size below 0, and one with neither gets 0. Refusals

@@ -1,4 +1,4 @@
-"""What tools/compare-desk and tools/compare-programmes share: random ledgers with errors, and the comparing."""
+"""What tools/compare-desk, tools/compare-programmes and tools/compare-seasons share: random ledgers with errors, and the comparing."""
 
 import collections
 import subprocess

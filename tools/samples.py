@@ -7,9 +7,11 @@
     python3 tools/samples.py run COMMAND ..         runs a desk program on every working file and compares
     python3 tools/samples.py make COMMAND ..        runs a program that makes the working file of a text, and compares
     python3 tools/samples.py programmes COMMAND ..  runs a program for strata on every text of a ledger in strata and compares
+    python3 tools/samples.py seasons COMMAND ..     runs a program for a season on every row of files and compares
 
 A sample NAME.txt is a text in the notation (tools/notation.py), of a working file, or of a ledger in strata where its first record is N. A sample
-NAME.hex holds the bytes of a working file themselves, for files that no text can give.
+NAME.hex holds the bytes of a working file themselves, for files that no text can give. A sample NAME.row names samples, one a line, whose working
+files stand in a row.
 """
 
 import pathlib
@@ -19,6 +21,7 @@ import sys
 import notation
 import reference
 import reference_programmes
+import reference_season
 
 SAMPLES = pathlib.Path(__file__).resolve().parent.parent / "samples"
 
@@ -42,15 +45,34 @@ def file_of(path):
 
 
 def every_sample():
-    return sorted([*SAMPLES.glob("*.txt"), *SAMPLES.glob("*.hex")])
+    return sorted([*SAMPLES.glob("*.txt"), *SAMPLES.glob("*.hex"), *SAMPLES.glob("*.row")])
+
+
+def named_in(path):
+    """The samples that a row names: lines that begin with # are comments."""
+    names = [line for line in path.read_text().splitlines() if not line.startswith("#")]
+    return [next(SAMPLES / (name + kind) for kind in (".txt", ".hex") if (SAMPLES / (name + kind)).exists()) for name in names]
+
+
+def row_of(path):
+    """The files of a row, one after the other."""
+    return b"".join(map(file_of, named_in(path)))
 
 
 def is_in_strata(path):
     return path.suffix == ".txt" and reference_programmes.in_strata(path.read_bytes())
 
 
+def is_row(path):
+    return path.suffix == ".row"
+
+
 def working_files():
-    return [path for path in every_sample() if not is_in_strata(path)]
+    return [path for path in every_sample() if not is_in_strata(path) and not is_row(path)]
+
+
+def rows_of_files():
+    return list(filter(is_row, every_sample()))
 
 
 def ledgers_in_strata():
@@ -59,6 +81,8 @@ def ledgers_in_strata():
 
 def sheet_of(path):
     """What is said to a sample, by the reference."""
+    if is_row(path):
+        return reference_season.overview(row_of(path))
     if not is_in_strata(path):
         return reference.desk(file_of(path))
     out, err = reference_programmes.answer_to(path.read_bytes())
@@ -157,7 +181,13 @@ def programmes(command):
     return ledgers_in_strata()
 
 
-COMMANDS = {"run": run, "make": make, "programmes": programmes}
+def seasons(command):
+    for path in rows_of_files():
+        compare(command, path, row_of(path), path.with_suffix(".out").read_bytes())
+    return rows_of_files()
+
+
+COMMANDS = {"run": run, "make": make, "programmes": programmes, "seasons": seasons}
 
 
 def main(arguments):

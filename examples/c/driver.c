@@ -469,6 +469,7 @@ int main(int argc, char **argv)
     kinds_broken();
     write_cases();
     strata_cases();
+    season_cases();
 #ifndef WITHOUT_SHEET
     sheet_cases();
 #endif

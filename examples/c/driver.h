@@ -14,10 +14,14 @@ void expect(int passed, const char *what);
 /* The operations by strata: worked cases, each refusal, and what a refused call leaves. */
 void strata_cases(void);
 
+/* The tally of a season: a worked one, each refusal, ties, places, and tallies made by hand. */
+void season_cases(void);
+
 /* Stored cases of these operations, for run_vectors. */
 void strata_plan_case(void);
 void strata_draw_case(void);
 void strata_project_case(void);
+void tally_case(void);
 
 /* Runs each case of one file through the C interface and compares its line with the other file's: docs/VECTORS.md. */
 void run_vectors(const char *cases, const char *answers);

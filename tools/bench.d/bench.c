@@ -63,6 +63,20 @@ static void set_strata_widest(void) { widest_ledger(); in_strata(1); }
  * words has none. */
 static void set_deep(void) { deep_ledger(); start = UINT64_MAX; te = 1; }
 static void set_strata_deep(void) { set_deep(); in_strata(1); }
+
+/* A tally whose worst share is the quotient of two of Fibonacci's numbers, as the one that is added is: they take long to compare. */
+static struct mus_tally season;
+
+static void set_season(void)
+{
+    season = mus_tally_none();
+    season.added = 1;
+    season.worst_limit = UINT64_C(7540113804746346429);
+    season.worst_book = UINT64_C(12200160415121876738);
+}
+
+static void call_tally_none(void) { kept = mus_tally_none().added; }
+static void call_tally_add(void) { kept = mus_tally_add(season, 90, UINT64_C(7540113804746346429), UINT64_C(4660046610375530309), MUS_BELOW).tally.worst; }
 #ifndef WITHOUT_SHEET
 static void set_deep_file(void)
 {
@@ -104,6 +118,8 @@ static const struct row {
     {"strata-project", set_strata, call_strata_project},
     {"strata-project-deep", set_strata_deep, call_strata_project},
     {"strata-project-widest", set_strata_widest, call_strata_project},
+    {"tally-none", set_season, call_tally_none},
+    {"tally-add", set_season, call_tally_add},
     {"read", set_read, call_read},
     {"write", longest_content, call_write},
 #ifndef WITHOUT_SHEET

@@ -5,6 +5,8 @@ use results::ProjectResult;
 use results::SplitResult;
 use results::StrataPlanResult;
 use results::StrataProjectResult;
+use results::TallyResult;
+use season::Tally;
 
 // An answer of figures alone.
 fn answer(refusal: u64, place: u64, figures: [u64; 5], count: usize) -> Answer {
@@ -129,6 +131,23 @@ pub fn of_strata_project(r: StrataProjectResult) -> Answer {
         count: 3,
         rest: Rest::Net(r.net),
     }
+}
+
+// One judgement more in the tally of a season, with the tally; its answer without the counts.
+pub fn tally_add(tally: Tally, level: u8, book: u64, limit: u64, verdict: u64) -> TallyResult {
+    results::tally::of_add(results::tally::add(tally, level, book, limit, verdict))
+}
+
+pub fn of_tally(r: TallyResult) -> Answer {
+    let tally = r.tally;
+    let figures = [
+        tally.books,
+        tally.limits,
+        tally.refused,
+        tally.added,
+        tally.worst,
+    ];
+    answer(r.refusal, r.place, figures, 5)
 }
 
 pub fn read(file: &[u8], words: &mut [u64], values: &mut [u64], errors: &mut [i64]) -> Answer {

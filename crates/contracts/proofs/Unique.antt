@@ -52,6 +52,7 @@ use Rattle.sheet.proofs.OneText.{sheet-once}
 use Rattle.notation.proofs.Laws.{parsed-once}
 use Rattle.starts.specs.Starts.{StartsPromise}
 use Rattle.reply.proofs.Laws.{reply-once}
+use Rattle.season.proofs.Laws.{add-once}
 use Rattle.results.specs.Seen.{Sees}
 use Rattle.contracts.specs.Unique.{One, OneWith, Three, NoFreedom}
 
@@ -197,6 +198,11 @@ no-freedom =
       strata-started = λ _ _ _ _ _. plan-once _;
       strata-draw = strata-draw-once;
       strata-project = λ _ _ _ _ _. strata-project-once _;
+      tally-entry = λ _ _ _ _ _ p q. p ∙ sym q;
+      tally-none = λ _ _ p q. p ∙ sym q;
+      tally-add = λ _ _ _ _ p q. add-once p q;
+      tally-files = λ _ _ _ p q. add-once p q;
+      overview = λ _ _ _ _ _ _ p q. printed-once p q;
       read = reads-once;
       write = writes-once;
       write-then-read = written-then-read-once;
@@ -218,6 +224,8 @@ no-freedom =
       mus-strata-plan = λ _ _ _. sees (plan-once _);
       mus-strata-draw = λ ledger counts n starts marks. sees-with (strata-draw-once ledger counts n starts marks);
       mus-strata-project = λ _ _ _ _ _. sees (strata-project-once _);
+      mus-tally-none = λ _ _ p q. p ∙ sym q;
+      mus-tally-add = λ _ _ _ _ _. sees (λ _ _ p q. add-once p q);
       mus-read = λ file words values errors. sees-with (reads-once file words values errors);
       mus-write = λ plan words values errors file. sees-with (writes-once plan words values errors file);
       mus-sheet = λ file page. sees-with (sheets-once file page);

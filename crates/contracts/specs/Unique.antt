@@ -17,6 +17,12 @@ use Rattle.draw.specs.Draw.{drawSays, DrawPromise}
 use Rattle.project.specs.Project.{projectSays, ProjectPromise}
 use Rattle.lines.specs.Each.{LinesPromise}
 use Rattle.judge.specs.Judge.{judgeSays, JudgePromise}
+use Rattle.judge.specs.declared.JudgeAnswer.{JudgeAnswer}
+use Rattle.season.specs.declared.{Entry.Entry, Tally.Tally}
+use Rattle.season.specs.Tally.{noTally}
+use Rattle.season.specs.Add.{entryOf, addOf, AddPromise}
+use Rattle.filing.specs.Filing.{filesOf}
+use Rattle.overview.specs.Overview.{overviewText}
 use Rattle.strata.specs.declared.Row.{Row}
 use Rattle.strata.specs.Strata.{planOf, PlanPromise}
 use Rattle.strata.specs.Starts.{startedOf}
@@ -37,6 +43,7 @@ use Rattle.starts.specs.Starts.{startsOf, StartsPromise}
 use Rattle.reply.specs.Reply.{replyOf, ReplyPromise}
 use Rattle.results.specs.Seen.{Sees}
 use Rattle.results.specs.Results.{sizeSeen, splitSeen, startSeen, drawSeen, projectSeen, judgeSeen, readSeen, writeSeen, sheetSeen}
+use Rattle.results.specs.Season.{entryFrom, tallySeen}
 use Rattle.results.specs.Strata.{strataPlanSeen, strataDrawSeen, strataProjectSeen}
 
 -- any two results that meet it agree: an answer alone, and an answer with what is left in the lent buffers
@@ -70,6 +77,12 @@ pub record NoFreedom : Type 0 where
   pub strata-started : (ledger counts : List ℕ) (n : ℕ) (starts : List ℕ) (beside : ℕ) → One (PlanPromise (startedOf ledger counts n starts beside))
   pub strata-draw : (ledger counts : List ℕ) (n : ℕ) (starts marks : List ℕ) → OneWith (DrawStrataPromise ledger counts n starts marks)
   pub strata-project : (ledger counts : List ℕ) (n : ℕ) (starts : List ℕ) (errors : List ℤ) → One (ProjectStrataPromise (projectStrataOf ledger counts n starts errors))
+  -- the tally of a season: whatever tally and entry are handed in
+  pub tally-entry : (level book : ℕ) (answer : JudgeAnswer) → One (λ r. r ≡ entryOf level book answer)
+  pub tally-none : One (λ r. r ≡ noTally)
+  pub tally-add : (tally : Tally) (entry : Entry) → One (AddPromise tally (addOf tally entry))
+  pub tally-files : (files : List ℕ) → One (AddPromise noTally (filesOf files))
+  pub overview : (files page : List ℕ) → OneWith (Printed (overviewText files) page)
   -- the working file, its sheet, and the text
   pub read : (file words values : List ℕ) (errors : List ℤ) → OneWith (λ r (b : Three). ReadPromise file words values errors r (b .0) (b .1) (b .2))
   pub write : (plan : Plan) (words values : List ℕ) (errors : List ℤ) (file : List ℕ) → OneWith (WritePromise plan words values errors file)
@@ -98,6 +111,9 @@ pub record NoFreedom : Type 0 where
       → OneWith (λ r b. Sees strataDrawSeen drawSays (λ a. DrawStrataPromise ledger counts n starts marks a b) r)
   pub mus-strata-project : (ledger counts : List ℕ) (n : ℕ) (starts : List ℕ) (errors : List ℤ)
       → One (Sees strataProjectSeen (λ a. a) (ProjectStrataPromise (projectStrataOf ledger counts n starts errors)))
+  pub mus-tally-none : One (λ r. r ≡ noTally)
+  pub mus-tally-add : (tally : Tally) (level book limit verdict : ℕ)
+      → One (Sees tallySeen (λ a. a) (AddPromise tally (addOf tally (entryFrom level book limit verdict))))
   pub mus-read : (file words values : List ℕ) (errors : List ℤ)
       → OneWith (λ r (b : Three). Sees readSeen readSays (λ a. ReadPromise file words values errors a (b .0) (b .1) (b .2)) r)
   pub mus-write : (plan : Plan) (words values : List ℕ) (errors : List ℤ) (file : List ℕ)

@@ -3,7 +3,7 @@ use terms::Refusal;
 ghost use mathlib.Core.Path.{_≡_};
 ghost use lib.ListN.{length};
 ghost use lib.IntN.{pos, _-ℤ_};
-ghost use Rattle.factors.specs.Levels.{LevelPromise, ef};
+ghost use Rattle.factors.specs.Levels.{LevelPromise, rowOf, ef};
 ghost use Rattle.factors.specs.Factors.{factorsOf, Reliability};
 
 mod table;
@@ -42,6 +42,23 @@ pub fn level_of(percent: u8) -> LevelAnswer
         60 => LevelAnswer::Known(Level::P60),
         50 => LevelAnswer::Known(Level::P50),
         _ => LevelAnswer::Refused(Refusal::UnknownLevel),
+    }
+}
+
+// The row of a level in the table.
+pub fn row(level: Level) -> usize
+    ensures { λ r. ⌜ r ≡ rowOf level ⌝ }
+{
+    match level {
+        Level::P99 => 0,
+        Level::P95 => 1,
+        Level::P90 => 2,
+        Level::P85 => 3,
+        Level::P80 => 4,
+        Level::P75 => 5,
+        Level::P70 => 6,
+        Level::P60 => 7,
+        Level::P50 => 8,
     }
 }
 

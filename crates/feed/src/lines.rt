@@ -27,12 +27,13 @@ fn put_name(pen: Pen, page: &mut [u8], operation: u8) -> Pen {
         10 => pen.text(page, b" strataplan"),
         11 => pen.text(page, b" stratadraw"),
         12 => pen.text(page, b" strataproject"),
+        13 => pen.text(page, b" tally"),
         _ => pen.text(page, b" is of no operation"),
     }
 }
 
 // The digests of what was lent: the room or the file, and each list; amounts, or counts and starts, stand in the place of the words. And
-// that of the strata's rows.
+// that of the strata's rows, or of a season's tallies.
 struct Digests {
     bytes: u64,
     ledger: u64,
@@ -47,7 +48,7 @@ fn put_lent(pen: Pen, page: &mut [u8], digests: &[u64]) -> Pen {
     lent.fields(page, digests)
 }
 
-// " rows" and the digest of the strata's rows.
+// " rows" and the digest of the strata's rows, or of a season's tallies.
 fn put_rows(pen: Pen, page: &mut [u8], rows: u64) -> Pen {
     let told = pen.text(page, b" rows");
     told.fields(page, &[rows])
@@ -78,6 +79,10 @@ fn put_digests(pen: Pen, page: &mut [u8], operation: u8, d: Digests) -> Pen {
         7 => put_lent(pen, page, &[d.bytes, d.words, d.ledger, d.errors]),
         9 => put_lent(pen, page, &[d.ledger, d.errors, d.words]),
         10..=12 => put_by_strata(pen, page, operation, d),
+        13 => {
+            let told = put_rows(pen, page, d.rows);
+            put_lent(told, page, &[d.words])
+        }
         _ => put_lent(pen, page, &[d.words, d.ledger, d.errors, d.bytes]),
     }
 }
@@ -128,7 +133,7 @@ pub fn tell_lines(number: u64, answer: Answer, ledger: &[u64], errors: &[i64], a
     write(number, 9, answer, digests);
 }
 
-// The line of a case that has the strata's rows.
+// The line of a case that has the strata's rows, or a season's tallies.
 pub fn tell_rows(
     number: u64,
     operation: u8,

@@ -3,3 +3,4 @@
 mod by_strata; // by_strata.rt: the operations by strata
 mod file; // file.rt: the working file and its sheet
 mod steps; // steps.rt: the steps of the method
+mod tally; // tally.rt: the tally of a season

@@ -1,3 +1,4 @@
 pub mod Seen
 pub mod Results
 pub mod Strata
+pub mod Season

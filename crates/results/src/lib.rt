@@ -1,8 +1,11 @@
 // What a caller in C sees of each operation's answer: a struct of the refusal's number and place, 0 where the call is accepted, and the
 // figures, 0 where it is refused.
+use season::Tally;
+
 pub mod by_strata; // by_strata.rt: answers of the operations by strata
 pub mod file; // file.rt: answers of the working file and its sheet
 pub mod steps; // steps.rt: answers of the steps
+pub mod tally; // tally.rt: the tally of a season
 
 #[repr(C)]
 pub struct SizeResult {
@@ -111,6 +114,14 @@ pub struct StrataProjectResult {
     pub net: i64,
     pub strata: u64,
     pub stratum: [StratumProjection; 32],
+}
+
+// The tally is handed back, refused or not.
+#[repr(C)]
+pub struct TallyResult {
+    pub refusal: u64,
+    pub place: u64,
+    pub tally: Tally,
 }
 
 #[repr(C)]

@@ -1,4 +1,4 @@
--- The sizes of document 01; the interval's is that of document 02, K4, and the number of strata that of K6. Definitions: nothing is assumed.
+-- The sizes of document 01; the interval's is that of document 02, K4, the number of strata that of K6, and of judgements in a season that of K13. Definitions: nothing is assumed.
 use Prim.Native.Nat.{ℕ}
 
 abbrev pub mostLines : ℕ
@@ -18,3 +18,6 @@ mostErrors = 63
 
 abbrev pub mostStrata : ℕ
 mostStrata = 32
+
+abbrev pub mostJudgements : ℕ
+mostJudgements = 1000000

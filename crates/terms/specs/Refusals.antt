@@ -28,6 +28,8 @@ tells (Refusal.RoomTooShort needed) = row 18 needed
 tells Refusal.NoLegalFile = row 19 0
 tells Refusal.StrataOutOfRange = row 22 0
 tells Refusal.TooFewDraws = row 23 0
+tells Refusal.TooManyJudgements = row 27 0
+tells Refusal.SumTooLarge = row 28 0
 tells Refusal.CountsDoNotAdd = row 30 0
 
 abbrev pub number : Refusal → ℕ

@@ -16,6 +16,8 @@ pub const MOST_ERRORS: usize = 63;
 
 pub const MOST_STRATA: usize = 32;
 
+pub const MOST_JUDGEMENTS: u64 = 1_000_000;
+
 // The place of a monetary unit: it counts cents.
 pub struct Cent(pub u64);
 
@@ -44,6 +46,8 @@ pub enum Refusal {
     NoLegalFile,
     StrataOutOfRange,
     TooFewDraws,
+    TooManyJudgements,
+    SumTooLarge,
     CountsDoNotAdd,
 }
 
@@ -85,6 +89,8 @@ pub fn tell(refusal: Refusal) -> Told
         Refusal::NoLegalFile => row(19, 0),
         Refusal::StrataOutOfRange => row(22, 0),
         Refusal::TooFewDraws => row(23, 0),
+        Refusal::TooManyJudgements => row(27, 0),
+        Refusal::SumTooLarge => row(28, 0),
         Refusal::CountsDoNotAdd => row(30, 0),
     }
 }

@@ -3,6 +3,7 @@
 mod by_strata; // by_strata.rt: cases by strata
 mod projected; // projected.rt: cases of the projected lines
 mod reads; // reads.rt: cases of a read
+mod seasons; // seasons.rt: cases of the tally of a season
 mod steps; // steps.rt: cases of the other operations
 
 ghost use mathlib.Core.Path.{_≡_};
@@ -42,6 +43,7 @@ fn run(
         7 => reads::run(number, case, room),
         9 => projected::run(number, case, numbers, errors, amounts),
         10..=12 => by_strata::run(number, case, numbers, errors, room),
+        13 => seasons::run(number, case, numbers),
         _ => steps::run(number, case, numbers, errors, room),
     }
 }

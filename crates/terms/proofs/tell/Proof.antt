@@ -38,4 +38,6 @@ tell-spec =
     (λ c. search arm) (λ c. search arm) (λ c. search arm)
     (λ c. search arm) (λ c. search arm) (λ c. search arm)
     (λ c. search arm) (λ c. search arm) (λ c. search arm)
+    (λ c. search arm) (λ c. search arm) (λ c. search arm)
+    (λ c. search arm) (λ c. search arm) (λ c. search arm)
     (λ c. search arm) (λ c. search arm) (λ c. search arm))

@@ -1,0 +1,3 @@
+-- The laws of the season's sheet, and sheets by computation.
+pub mod Short
+pub mod Worked

@@ -1,0 +1,11 @@
+-- `overview::lines::worst_line` meets its contract. Assumes nothing.
+use borrow.Author.Needs.{needs}
+use Rattle.overview.proofs.Short.{SmallTally, worst-written}
+use Rattle.overview.proofs.lines.worst_line.Statement.{statement}
+use Rattle.overview.proofs.lines.worst_line.Tie as tie
+
+small : (c : tie.Start) → SmallTally (c .args .tally)
+small c = search needs
+
+pub worst-line-spec : {M : Type 1} → statement M
+worst-line-spec = tie.close (tie.spec (λ c. search needs) (λ c. search needs) (λ c κs. search needs) (λ c. search needs) (λ c. search (needs, small, worst-written)))

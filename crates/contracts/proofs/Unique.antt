@@ -216,6 +216,7 @@ no-freedom =
       attribute-size = λ _ _ _ _ p q. items-once p q;
       attribute-bound = λ _ _ _ _ _ p q. bound-once p q;
       statement = λ _ _ _ _ _ _ _ _ p q. printed-once p q;
+      answer-line = λ _ _ _ _ _ _ p q. (p .answer ∙ sym (q .answer), p .page-left ∙ sym (q .page-left));
       post = posts-once;
       post-all = batches-once;
       read = reads-once;

@@ -25,6 +25,7 @@ use Rattle.season.specs.Tally.{noTally}
 use Rattle.season.specs.Add.{entryOf, addOf, AddPromise}
 use Rattle.attributes.specs.Attributes.{itemsSays, boundSays, ItemsPromise, BoundPromise}
 use Rattle.confidence.specs.Confidence.{statementText}
+use Rattle.confidence.specs.Line.{LinePromise}
 use Rattle.filing.specs.Filing.{filesOf}
 use Rattle.overview.specs.Overview.{overviewText}
 use Rattle.strata.specs.declared.Row.{Row}
@@ -93,6 +94,7 @@ pub record NoFreedom : Type 0 where
   pub attribute-size : (level tolerance : ℕ) → One (ItemsPromise level tolerance)
   pub attribute-bound : (level tolerance exceptions : ℕ) → One (BoundPromise level tolerance exceptions)
   pub statement : (level tolerance exceptions : ℕ) (page : List ℕ) → OneWith (Printed (statementText level tolerance exceptions) page)
+  pub answer-line : (text page : List ℕ) → OneWith (LinePromise text page)
   -- findings, singly and by the batch
   pub post : (ledger marks : List ℕ) (errors : List ℤ) (line : ℕ) (error : ℤ) → OneWith (PostPromise ledger marks errors line error)
   pub post-all : (ledger marks : List ℕ) (errors : List ℤ) (lines : List ℕ) (found : List ℤ) → OneWith (PostAllPromise ledger marks errors lines found)

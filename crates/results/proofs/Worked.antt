@@ -9,7 +9,7 @@ use Rattle.split.proofs.Worked.{grants-split}
 use Rattle.start.specs.Start.{startOf}
 use Rattle.start.proofs.Worked.{worked}
 use Rattle.attributes.specs.Attributes.{boundOf}
-use Rattle.attributes.proofs.Cases.{forty-five, two-of-them}
+use Rattle.attributes.proofs.Cases.{two-in-forty-five, two-of-them}
 use Rattle.findings.specs.Batch.{Batch, postAllOf}
 use Rattle.findings.proofs.Worked.{claims, drawn, none, practice, stopped}
 use Rattle.results.specs.Control.{boundSeen}
@@ -30,7 +30,7 @@ pub start-refused : startSeen (startOf 40 (63 ∷ 40 ∷ [])) ≡ record { refus
 start-refused = ap startSeen (worked .3)
 
 pub bound-seen : boundSeen (boundOf 90 5 2) ≡ record { refusal = 0; place = 0; hundredths = 1140 }
-bound-seen = ap boundSeen forty-five
+bound-seen = ap boundSeen two-in-forty-five
 
 pub bound-refused : boundSeen (boundOf 90 2 11) ≡ record { refusal = 25; place = 0; hundredths = 0 }
 bound-refused = ap boundSeen two-of-them

@@ -4,7 +4,7 @@
  * the figures are the answer. Otherwise `refusal` is a number of enum mus_refusal, `place` says where (a line, a byte, a count;
  * 0 where the refusal names none), every figure is 0 but those of a tally, which is handed back as it was, and every lent buffer keeps
  * its former content. Where several refusals apply, the first is given in this order: 27, 1, 22, 30, 2, 13; then 3 and 4 line by line;
- * then 5 to 8, 23, 11; then 14 and 15 line by line; then 16; then 28.
+ * then 5 to 8, 23, 11; then 14 and 15 line by line; then 16; then 28. Of a control test: 1, 25, 26.
  *
  * Money and numbers of draws are 64-bit, money in whole cents. Lines are numbered from 0. An error has a sign: above 0 the line is
  * overstated, too much was claimed; below 0 it is understated, too little; 0 is no error. A list is a pointer and a number of entries;
@@ -17,22 +17,24 @@
  * in the deepest stratum, needs the larger of the first two figures.
  * No ledger and no number of draws make more than MUS_MOST_ROUNDS rounds, which is proved; so the last figure is enough for every input.
  *
- *     call               one round   r rounds           90 rounds
- *     mus_size                 104
- *     mus_split                192   144 + 48 r            4,464
- *     mus_start                 56
- *     mus_draw                 176   128 + 48 r            4,448
- *     mus_project              616   224 + 48 r            4,544
- *     mus_project_lines        664   272 + 48 r            4,592
- *     mus_judge              1,560   1,168 + 48 r          5,488
- *     mus_strata_plan        7,696   7,648 + 48 r         11,968
- *     mus_strata_draw        6,512   6,464 + 48 r         10,784
- *     mus_strata_project    10,912   10,864 + 48 r        15,184
- *     mus_tally_none           296
- *     mus_tally_add          1,752
- *     mus_read                 288
- *     mus_write                136
- *     mus_sheet             34,920   34,656 + 48 r        38,976
+ *     call                one round   r rounds           90 rounds
+ *     mus_size                  104
+ *     mus_split                 192   144 + 48 r            4,464
+ *     mus_start                  56
+ *     mus_draw                  176   128 + 48 r            4,448
+ *     mus_project               616   224 + 48 r            4,544
+ *     mus_project_lines         664   272 + 48 r            4,592
+ *     mus_judge               1,560   1,168 + 48 r          5,488
+ *     mus_strata_plan         7,696   7,648 + 48 r         11,968
+ *     mus_strata_draw         6,512   6,464 + 48 r         10,784
+ *     mus_strata_project     10,912   10,864 + 48 r        15,184
+ *     mus_tally_none            296
+ *     mus_tally_add           1,752
+ *     mus_attribute_size         80
+ *     mus_attribute_bound       384
+ *     mus_read                  288
+ *     mus_write                 136
+ *     mus_sheet              34,920   34,656 + 48 r        38,976
  *
  * It was measured on the library as `rt staticlib mus` makes it (docs/PERFORMANCE.md). */
 #ifndef MUS_H
@@ -68,7 +70,7 @@ extern "C" {
 /* Why a call is refused. The comment names the place where it is not 0. */
 enum mus_refusal {
     MUS_ACCEPTED = 0,
-    MUS_UNKNOWN_LEVEL = 1,          /* level is none of 99, 95, 90, 85, 80, 75, 70, 60, 50 */
+    MUS_UNKNOWN_LEVEL = 1,          /* level is none of 99, 95, 90, 85, 80, 75, 70, 60, 50; of a control test none of 99, 95, 90 */
     MUS_TOO_MANY_LINES = 2,         /* more than MUS_MOST_LINES lines */
     MUS_VALUE_TOO_LARGE = 3,        /* a book value above MUS_MOST_VALUE; the line */
     MUS_TOTAL_TOO_LARGE = 4,        /* the running total passes MUS_MOST_TOTAL; the line */
@@ -89,6 +91,8 @@ enum mus_refusal {
     MUS_NO_LEGAL_FILE = 19,         /* the content has no legal file */
     MUS_STRATA_OUT_OF_RANGE = 22,   /* there are no strata, or more than MUS_MOST_STRATA */
     MUS_TOO_FEW_DRAWS = 23,         /* there are fewer draws than strata with book value */
+    MUS_UNKNOWN_TOLERANCE = 25,     /* the tolerance of a control test is none of 1, 3, 5, 7, 10 percent */
+    MUS_TOO_MANY_EXCEPTIONS = 26,   /* a control test has more than 10 exceptions */
     MUS_TOO_MANY_JUDGEMENTS = 27,   /* the tally holds MUS_MOST_JUDGEMENTS already, refused ones included */
     MUS_SUM_TOO_LARGE = 28,         /* a sum of the tally would pass 64 bits */
     MUS_COUNTS_DO_NOT_ADD = 30      /* the counts of the strata do not add to the ledger's lines */
@@ -197,6 +201,17 @@ struct mus_tally_result {
     struct mus_tally tally; /* with the judgement added; where the call is refused, the tally that was handed in */
 };
 
+/* What the attribute job aid says of a control test. */
+struct mus_attribute_size_result {
+    uint64_t refusal, place;
+    uint64_t items; /* the sample size */
+};
+
+struct mus_attribute_bound_result {
+    uint64_t refusal, place;
+    uint64_t hundredths; /* the upper bound, in hundredths of a percent */
+};
+
 struct mus_read_result {
     uint64_t refusal, place;
     uint64_t level, te, ae;
@@ -268,6 +283,15 @@ struct mus_tally mus_tally_none(void);
  * counted in refused and added alone, and meets only 27. Any tally is taken, made by this call or not. Refusals 27, 1, 5 for a book
  * of 0, 28 where a sum or a count would pass 64 bits. */
 struct mus_tally_result mus_tally_add(struct mus_tally tally, uint8_t level, uint64_t book, uint64_t limit, uint64_t verdict);
+
+/* The sample size of a control test, for attributes and not for money: the least number of items, so that a sample without an exception says with
+ * the level's confidence that less than the tolerance are exceptions. level is 90, 95 or 99 and tolerance 1, 3, 5, 7 or 10, both in
+ * percent. Refusals 1, 25. */
+struct mus_attribute_size_result mus_attribute_size(uint8_t level, uint8_t tolerance);
+
+/* The upper bound on the exceptions among all items, where a sample of that size has so many: the least number of hundredths of a percent at
+ * which so few exceptions have a chance of at most 100 - level percent. Refusals 1, 25, 26. */
+struct mus_attribute_bound_result mus_attribute_bound(uint8_t level, uint8_t tolerance, uint64_t exceptions);
 
 /* Reads a working file. words has room for at least MUS_MOST_WORDS entries, values and errors for at least MUS_MOST_FILE_LINES; entries
  * past those read stay as they were. A line with a record E gets its error, one with U its size below 0, and one with neither gets 0. Refusals

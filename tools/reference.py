@@ -3,7 +3,7 @@
 
 It is written from the rules alone, in exact whole numbers, to be read beside them. It shares nothing with the
 proved program, so that the two can be held against each other. The operations by strata stand in tools/reference_strata.py, the
-program for them in tools/reference_programmes.py, the tally of a season in tools/reference_season.py.
+program for them in tools/reference_programmes.py, the tally of a season in tools/reference_season.py, the attribute job aid in tools/reference_attributes.py.
 
 An operation takes its inputs and its lent buffers (lists of numbers, or bytearrays), and returns its answer or a
 Refusal (number, place). It stores into a lent buffer only after its last check: a refused call leaves every buffer.
@@ -615,6 +615,7 @@ def desk(file):
 def main(arguments):
     if arguments == ["check"]:
         import self_test  # they stand on this file
+        import self_test_attributes
         import self_test_programmes
         import self_test_season
         import self_test_strata
@@ -623,6 +624,7 @@ def main(arguments):
         self_test_strata.run()
         self_test_programmes.run()
         self_test_season.run()
+        self_test_attributes.run()
     elif arguments == ["desk"]:
         sys.stdout.buffer.write(desk(sys.stdin.buffer.read()))
     elif arguments == ["factors"]:

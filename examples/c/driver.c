@@ -470,6 +470,7 @@ int main(int argc, char **argv)
     write_cases();
     strata_cases();
     season_cases();
+    attribute_cases();
 #ifndef WITHOUT_SHEET
     sheet_cases();
 #endif

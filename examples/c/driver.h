@@ -17,6 +17,9 @@ void strata_cases(void);
 /* The tally of a season: a worked one, each refusal, ties, places, and tallies made by hand. */
 void season_cases(void);
 
+/* The attribute job aid: table 1, the worked case, each refusal. */
+void attribute_cases(void);
+
 /* Stored cases of these operations, for run_vectors. */
 void strata_plan_case(void);
 void strata_draw_case(void);

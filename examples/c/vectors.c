@@ -12,6 +12,20 @@ static void size_case(void)
     say_answer(r.refusal, r.place, &r.draws, 1);
 }
 
+static void attribute_size_case(void)
+{
+    struct mus_attribute_size_result r = mus_attribute_size(level, (uint8_t) first);
+    say(" attributesize");
+    say_answer(r.refusal, r.place, &r.items, 1);
+}
+
+static void attribute_bound_case(void)
+{
+    struct mus_attribute_bound_result r = mus_attribute_bound(level, (uint8_t) first, second);
+    say(" attributebound");
+    say_answer(r.refusal, r.place, &r.hundredths, 1);
+}
+
 static void split_case(void)
 {
     byte_room();
@@ -116,7 +130,7 @@ static void write_case(void)
 static void run_case(uint64_t place, FILE *answers)
 {
     static void (*const operations[])(void) = {size_case, split_case, start_case, draw_case, project_case, judge_case, read_case, write_case, lines_case,
-        strata_plan_case, strata_draw_case, strata_project_case, tally_case};
+        strata_plan_case, strata_draw_case, strata_project_case, tally_case, attribute_size_case, attribute_bound_case};
     char what[40];
     say_place(place);
     if (operation >= 1 && operation <= sizeof operations / sizeof operations[0]) operations[operation - 1]();

@@ -77,6 +77,11 @@ static void set_season(void)
 
 static void call_tally_none(void) { kept = mus_tally_none().added; }
 static void call_tally_add(void) { kept = mus_tally_add(season, 90, UINT64_C(7540113804746346429), UINT64_C(4660046610375530309), MUS_BELOW).tally.worst; }
+
+/* The last of either table. */
+static void set_attributes(void) { }
+static void call_attribute_size(void) { kept = mus_attribute_size(99, 10).items; }
+static void call_attribute_bound(void) { kept = mus_attribute_bound(99, 10, 10).hundredths; }
 #ifndef WITHOUT_SHEET
 static void set_deep_file(void)
 {
@@ -120,6 +125,8 @@ static const struct row {
     {"strata-project-widest", set_strata_widest, call_strata_project},
     {"tally-none", set_season, call_tally_none},
     {"tally-add", set_season, call_tally_add},
+    {"attribute-size", set_attributes, call_attribute_size},
+    {"attribute-bound", set_attributes, call_attribute_bound},
     {"read", set_read, call_read},
     {"write", longest_content, call_write},
 #ifndef WITHOUT_SHEET

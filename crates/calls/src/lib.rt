@@ -150,6 +150,17 @@ pub fn of_tally(r: TallyResult) -> Answer {
     answer(r.refusal, r.place, figures, 5)
 }
 
+// The attribute job aid.
+pub fn attribute_size(level: u8, tolerance: u8) -> Answer {
+    let r = results::control::of_items(attributes::size(level, tolerance));
+    answer(r.refusal, r.place, [r.items, 0, 0, 0, 0], 1)
+}
+
+pub fn attribute_bound(level: u8, tolerance: u8, exceptions: u64) -> Answer {
+    let r = results::control::of_bound(attributes::bound(level, tolerance, exceptions));
+    answer(r.refusal, r.place, [r.hundredths, 0, 0, 0, 0], 1)
+}
+
 pub fn read(file: &[u8], words: &mut [u64], values: &mut [u64], errors: &mut [i64]) -> Answer {
     let r = results::file::of_read(reader::read(file, words, values, errors));
     let figures = [r.level, r.te, r.ae, r.words, r.lines];

@@ -53,6 +53,7 @@ use Rattle.notation.proofs.Laws.{parsed-once}
 use Rattle.starts.specs.Starts.{StartsPromise}
 use Rattle.reply.proofs.Laws.{reply-once}
 use Rattle.season.proofs.Laws.{add-once}
+use Rattle.attributes.proofs.Answers.{items-once, bound-once}
 use Rattle.results.specs.Seen.{Sees}
 use Rattle.contracts.specs.Unique.{One, OneWith, Three, NoFreedom}
 
@@ -203,6 +204,10 @@ no-freedom =
       tally-add = λ _ _ _ _ p q. add-once p q;
       tally-files = λ _ _ _ p q. add-once p q;
       overview = λ _ _ _ _ _ _ p q. printed-once p q;
+      attribute-size = λ _ _ _ _ p q. items-once p q;
+      attribute-bound = λ _ _ _ _ _ p q. bound-once p q;
+      statement = λ _ _ _ _ _ _ _ _ p q. printed-once p q;
+      answer-line = λ _ _ _ _ _ _ p q. (p .answer ∙ sym (q .answer), p .page-left ∙ sym (q .page-left));
       read = reads-once;
       write = writes-once;
       write-then-read = written-then-read-once;
@@ -226,6 +231,8 @@ no-freedom =
       mus-strata-project = λ _ _ _ _ _. sees (strata-project-once _);
       mus-tally-none = λ _ _ p q. p ∙ sym q;
       mus-tally-add = λ _ _ _ _ _. sees (λ _ _ p q. add-once p q);
+      mus-attribute-size = λ _ _. sees (λ _ _ p q. items-once p q);
+      mus-attribute-bound = λ _ _ _. sees (λ _ _ p q. bound-once p q);
       mus-read = λ file words values errors. sees-with (reads-once file words values errors);
       mus-write = λ plan words values errors file. sees-with (writes-once plan words values errors file);
       mus-sheet = λ file page. sees-with (sheets-once file page);

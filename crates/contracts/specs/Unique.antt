@@ -21,6 +21,9 @@ use Rattle.judge.specs.declared.JudgeAnswer.{JudgeAnswer}
 use Rattle.season.specs.declared.{Entry.Entry, Tally.Tally}
 use Rattle.season.specs.Tally.{noTally}
 use Rattle.season.specs.Add.{entryOf, addOf, AddPromise}
+use Rattle.attributes.specs.Attributes.{itemsSays, boundSays, ItemsPromise, BoundPromise}
+use Rattle.confidence.specs.Confidence.{statementText}
+use Rattle.confidence.specs.Line.{LinePromise}
 use Rattle.filing.specs.Filing.{filesOf}
 use Rattle.overview.specs.Overview.{overviewText}
 use Rattle.strata.specs.declared.Row.{Row}
@@ -43,6 +46,7 @@ use Rattle.starts.specs.Starts.{startsOf, StartsPromise}
 use Rattle.reply.specs.Reply.{replyOf, ReplyPromise}
 use Rattle.results.specs.Seen.{Sees}
 use Rattle.results.specs.Results.{sizeSeen, splitSeen, startSeen, drawSeen, projectSeen, judgeSeen, readSeen, writeSeen, sheetSeen}
+use Rattle.results.specs.Control.{itemsSeen, boundSeen}
 use Rattle.results.specs.Season.{entryFrom, tallySeen}
 use Rattle.results.specs.Strata.{strataPlanSeen, strataDrawSeen, strataProjectSeen}
 
@@ -83,6 +87,11 @@ pub record NoFreedom : Type 0 where
   pub tally-add : (tally : Tally) (entry : Entry) → One (AddPromise tally (addOf tally entry))
   pub tally-files : (files : List ℕ) → One (AddPromise noTally (filesOf files))
   pub overview : (files page : List ℕ) → OneWith (Printed (overviewText files) page)
+  -- the attribute job aid
+  pub attribute-size : (level tolerance : ℕ) → One (ItemsPromise level tolerance)
+  pub attribute-bound : (level tolerance exceptions : ℕ) → One (BoundPromise level tolerance exceptions)
+  pub statement : (level tolerance exceptions : ℕ) (page : List ℕ) → OneWith (Printed (statementText level tolerance exceptions) page)
+  pub answer-line : (text page : List ℕ) → OneWith (LinePromise text page)
   -- the working file, its sheet, and the text
   pub read : (file words values : List ℕ) (errors : List ℤ) → OneWith (λ r (b : Three). ReadPromise file words values errors r (b .0) (b .1) (b .2))
   pub write : (plan : Plan) (words values : List ℕ) (errors : List ℤ) (file : List ℕ) → OneWith (WritePromise plan words values errors file)
@@ -114,6 +123,8 @@ pub record NoFreedom : Type 0 where
   pub mus-tally-none : One (λ r. r ≡ noTally)
   pub mus-tally-add : (tally : Tally) (level book limit verdict : ℕ)
       → One (Sees tallySeen (λ a. a) (AddPromise tally (addOf tally (entryFrom level book limit verdict))))
+  pub mus-attribute-size : (level tolerance : ℕ) → One (Sees itemsSeen itemsSays (ItemsPromise level tolerance))
+  pub mus-attribute-bound : (level tolerance exceptions : ℕ) → One (Sees boundSeen boundSays (BoundPromise level tolerance exceptions))
   pub mus-read : (file words values : List ℕ) (errors : List ℤ)
       → OneWith (λ r (b : Three). Sees readSeen readSays (λ a. ReadPromise file words values errors a (b .0) (b .1) (b .2)) r)
   pub mus-write : (plan : Plan) (words values : List ℕ) (errors : List ℤ) (file : List ℕ)

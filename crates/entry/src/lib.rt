@@ -1,6 +1,6 @@
 // One line of the text from which a working file is made: its fields, its numbers and its record.
 pub mod fields; // fields.rt: the bytes of a line, its fields and numbers
-mod body; // body.rt: the numbers of a line
+pub mod body; // body.rt: the numbers of a line
 pub mod records; // records.rt: the record of a line
 
 use workfile::FileRecord;
@@ -52,13 +52,13 @@ pub enum NextAnswer {
 }
 
 // The last three numbers of a line; where it has fewer, the others are 0.
-struct Numbers {
-    first: u64,
-    second: u64,
-    third: u64,
+pub struct Numbers {
+    pub first: u64,
+    pub second: u64,
+    pub third: u64,
 }
 
-enum NumbersAnswer {
+pub enum NumbersAnswer {
     Read(Numbers),
     Unread(Wrong),
 }

@@ -28,6 +28,8 @@ fn put_name(pen: Pen, page: &mut [u8], operation: u8) -> Pen {
         11 => pen.text(page, b" stratadraw"),
         12 => pen.text(page, b" strataproject"),
         13 => pen.text(page, b" tally"),
+        14 => pen.text(page, b" attributesize"),
+        15 => pen.text(page, b" attributebound"),
         _ => pen.text(page, b" is of no operation"),
     }
 }
@@ -72,7 +74,7 @@ fn put_by_strata(pen: Pen, page: &mut [u8], operation: u8, d: Digests) -> Pen {
 // The digests of what an operation was lent.
 fn put_digests(pen: Pen, page: &mut [u8], operation: u8, d: Digests) -> Pen {
     match operation {
-        1 => pen,
+        1 | 14 | 15 => pen,
         2 | 4 => put_lent(pen, page, &[d.ledger, d.bytes]),
         3 => put_lent(pen, page, &[d.words]),
         5 | 6 => put_lent(pen, page, &[d.ledger, d.errors]),

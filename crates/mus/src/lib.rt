@@ -1,6 +1,7 @@
 // The operations for C and the like. Each answers a struct by value (crate `results`). A slice is a pointer and a length. include/mus.h
 // declares them.
 mod by_strata; // by_strata.rt: the operations by strata
+mod control; // control.rt: the attribute job aid for control tests
 mod file; // file.rt: the working file and its sheet
 mod steps; // steps.rt: the steps of the method
 mod tally; // tally.rt: the tally of a season

@@ -1,4 +1,4 @@
--- What a caller in C sees of the practice sheet's size, split and start, and of a refusal. Assumes nothing.
+-- What a caller in C sees of the practice sheet's size, split and start, of document 000's case, and of a refusal. Assumes nothing.
 use mathlib.Core.Path.{_≡_, ap}
 use mathlib.Core.List.{[], _∷_}
 use Rattle.size.specs.Size.{sizeOf}
@@ -7,6 +7,9 @@ use Rattle.split.specs.Split.{splitOf}
 use Rattle.split.proofs.Worked.{grants-split}
 use Rattle.start.specs.Start.{startOf}
 use Rattle.start.proofs.Worked.{worked}
+use Rattle.attributes.specs.Attributes.{boundOf}
+use Rattle.attributes.proofs.Cases.{two-in-forty-five, two-of-them}
+use Rattle.results.specs.Control.{boundSeen}
 use Rattle.results.specs.Results.{sizeSeen, splitSeen, startSeen}
 
 pub size-seen : sizeSeen (sizeOf 95 1000000 20000 0) ≡ record { refusal = 0; place = 0; draws = 150 }
@@ -21,3 +24,9 @@ start-seen = ap startSeen (worked .0)
 
 pub start-refused : startSeen (startOf 40 (63 ∷ 40 ∷ [])) ≡ record { refusal = 12; place = 2; start = 0; words = 0 }
 start-refused = ap startSeen (worked .3)
+
+pub bound-seen : boundSeen (boundOf 90 5 2) ≡ record { refusal = 0; place = 0; hundredths = 1140 }
+bound-seen = ap boundSeen two-in-forty-five
+
+pub bound-refused : boundSeen (boundOf 90 2 11) ≡ record { refusal = 25; place = 0; hundredths = 0 }
+bound-refused = ap boundSeen two-of-them

@@ -2,3 +2,4 @@ pub mod Seen
 pub mod Results
 pub mod Strata
 pub mod Season
+pub mod Control

@@ -3,6 +3,7 @@
 use season::Tally;
 
 pub mod by_strata; // by_strata.rt: answers of the operations by strata
+pub mod control; // control.rt: answers of the attribute job aid
 pub mod file; // file.rt: answers of the working file and its sheet
 pub mod steps; // steps.rt: answers of the steps
 pub mod tally; // tally.rt: the tally of a season
@@ -122,6 +123,20 @@ pub struct TallyResult {
     pub refusal: u64,
     pub place: u64,
     pub tally: Tally,
+}
+
+#[repr(C)]
+pub struct AttributeSizeResult {
+    pub refusal: u64,
+    pub place: u64,
+    pub items: u64,
+}
+
+#[repr(C)]
+pub struct AttributeBoundResult {
+    pub refusal: u64,
+    pub place: u64,
+    pub hundredths: u64,
 }
 
 #[repr(C)]

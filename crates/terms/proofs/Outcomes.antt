@@ -67,7 +67,7 @@ listed p =
     Refusal.IntervalTooLarge ∷ Refusal.StartOutOfRange p ∷ Refusal.NoWordPasses p ∷ Refusal.LengthsDiffer ∷ Refusal.ErrorAboveValue p ∷
     Refusal.ErrorNotDrawn p ∷ Refusal.TooManyErrors ∷ Refusal.FileBreaksRule p ∷ Refusal.RoomTooShort p ∷ Refusal.NoLegalFile ∷
     Refusal.NoLegalFile ∷ Refusal.NoLegalFile ∷ Refusal.StrataOutOfRange ∷ Refusal.TooFewDraws ∷ Refusal.NoLegalFile ∷
-    Refusal.NoLegalFile ∷ Refusal.NoLegalFile ∷ Refusal.TooManyJudgements ∷ Refusal.SumTooLarge ∷ Refusal.NoLegalFile ∷
+    Refusal.UnknownTolerance ∷ Refusal.TooManyExceptions ∷ Refusal.TooManyJudgements ∷ Refusal.SumTooLarge ∷ Refusal.NoLegalFile ∷
     Refusal.CountsDoNotAdd ∷ []
 
 entry : List Refusal → ℕ → Refusal
@@ -98,6 +98,8 @@ found (Refusal.RoomTooShort needed) = refl
 found Refusal.NoLegalFile = refl
 found Refusal.StrataOutOfRange = refl
 found Refusal.TooFewDraws = refl
+found Refusal.UnknownTolerance = refl
+found Refusal.TooManyExceptions = refl
 found Refusal.TooManyJudgements = refl
 found Refusal.SumTooLarge = refl
 found Refusal.CountsDoNotAdd = refl

@@ -31,6 +31,8 @@ fn answer(case: Case, ledger: &[u64], errors: &[i64], words: &[u64], room: &mut 
             errors,
             room,
         ),
+        14 => calls::attribute_size(case.level, (case.first % 256) as u8),
+        15 => calls::attribute_bound(case.level, (case.first % 256) as u8, case.second),
         _ => calls::size(case.level, case.first, case.second, case.third),
     }
 }

@@ -3,8 +3,9 @@
  * Every function is total: it takes any input and returns a struct by value. `refusal` is 0 where the call is accepted, and then
  * the figures are the answer. Otherwise `refusal` is a number of enum mus_refusal, `place` says where (a line, a byte, a count;
  * 0 where the refusal names none), every figure is 0 but those of a tally, which is handed back as it was, and every lent buffer keeps
- * its former content. Where several refusals apply, the first is given in this order: 27, 1, 22, 30, 2, 13; then 3 and 4 line by line;
- * then 5 to 8, 23, 11; then 14 and 15 line by line; then 16; then 28. Of a control test: 1, 25, 26.
+ * its former content, but that a batch of findings (mus_post_all) leaves the pairs before the refused one posted. Where several refusals
+ * apply, the first is given in this order: 27, 1, 22, 30, 2, 13; then 3 and 4 line by line; then 5 to 8, 23, 11; then 14 and 15 line
+ * by line; then 16; then 28. Of a control test: 1, 25, 26. Of findings: 13; then 20, 14 and 15 pair by pair.
  *
  * Money and numbers of draws are 64-bit, money in whole cents. Lines are numbered from 0. An error has a sign: above 0 the line is
  * overstated, too much was claimed; below 0 it is understated, too little; 0 is no error. A list is a pointer and a number of entries;
@@ -25,9 +26,11 @@
  *     mus_project               616   224 + 48 r            4,544
  *     mus_project_lines         664   272 + 48 r            4,592
  *     mus_judge               1,560   1,168 + 48 r          5,488
- *     mus_strata_plan         7,696   7,648 + 48 r         11,968
+ *     mus_strata_plan         7,792   7,744 + 48 r         12,064
  *     mus_strata_draw         6,512   6,464 + 48 r         10,784
  *     mus_strata_project     10,912   10,864 + 48 r        15,184
+ *     mus_post                   72
+ *     mus_post_all              128
  *     mus_tally_none            296
  *     mus_tally_add           1,752
  *     mus_attribute_size         80
@@ -82,13 +85,14 @@ enum mus_refusal {
     MUS_INTERVAL_TOO_LARGE = 10,    /* an interval handed in is above MUS_MOST_INTERVAL: mus_start alone */
     MUS_START_OUT_OF_RANGE = 11,    /* a start is not below its interval, or not 0 where there is none; the stratum, 0 without strata */
     MUS_NO_WORD_PASSES = 12,        /* no random word passes; the number of words lent */
-    MUS_LENGTHS_DIFFER = 13,        /* marks, errors or amounts differ from the ledger in length, or starts from counts */
-    MUS_ERROR_ABOVE_VALUE = 14,     /* the size of an error exceeds its line's value; the line */
-    MUS_ERROR_NOT_DRAWN = 15,       /* an error other than 0 on a line not drawn and not full; the line */
+    MUS_LENGTHS_DIFFER = 13,        /* marks, errors or amounts differ from the ledger in length, starts from counts, or errors found from lines */
+    MUS_ERROR_ABOVE_VALUE = 14,     /* the size of an error exceeds its line's value; the line, of findings the pair */
+    MUS_ERROR_NOT_DRAWN = 15,       /* an error other than 0 on a line not drawn and not full; the line, of findings the pair */
     MUS_TOO_MANY_ERRORS = 16,       /* more than MUS_MOST_ERRORS drawn lines are overstated */
     MUS_FILE_BREAKS_RULE = 17,      /* the working file breaks a rule; the byte */
     MUS_ROOM_TOO_SHORT = 18,        /* a lent file buffer or page is too short; the bytes or entries needed */
     MUS_NO_LEGAL_FILE = 19,         /* the content has no legal file */
+    MUS_LINE_NOT_THERE = 20,        /* a line is not in the ledger; the pair */
     MUS_STRATA_OUT_OF_RANGE = 22,   /* there are no strata, or more than MUS_MOST_STRATA */
     MUS_TOO_FEW_DRAWS = 23,         /* there are fewer draws than strata with book value */
     MUS_UNKNOWN_TOLERANCE = 25,     /* the tolerance of a control test is none of 1, 3, 5, 7, 10 percent */
@@ -212,6 +216,11 @@ struct mus_attribute_bound_result {
     uint64_t hundredths; /* the upper bound, in hundredths of a percent */
 };
 
+struct mus_post_result {
+    uint64_t refusal, place; /* the place of 20, 14 and 15 is the position of the pair, from 0: as many stay posted */
+    uint64_t posted;         /* how many pairs were posted */
+};
+
 struct mus_read_result {
     uint64_t refusal, place;
     uint64_t level, te, ae;
@@ -274,6 +283,19 @@ struct mus_strata_draw_result mus_strata_draw(const uint64_t *ledger, size_t led
 /* The projection of each stratum, and over all of them. Refusals 22, 30, 2, 13 (for errors or starts), 3, 4, 5, 8, 23, 11 with the first wrong
  * stratum, 14, 15. */
 struct mus_strata_project_result mus_strata_project(const uint64_t *ledger, size_t ledger_length, const uint64_t *counts, size_t counts_length, uint64_t n, const uint64_t *starts, size_t starts_length, const int64_t *errors, size_t errors_length);
+
+/* Posts one finding, a line of the whole ledger and the error found there, from -value to value: errors has the entry of the line changed to it and
+ * no other. marks is as mus_draw or mus_strata_draw wrote it; a mark counts as it stands, and any but MUS_DRAWN and MUS_FULL means not drawn. An
+ * error of 0 clears a finding, on any line. The ledger is not judged: a projection does that. Refusals 13 (for marks or errors), 20, 14, 15; the
+ * errors then stay as they were. */
+struct mus_post_result mus_post(const uint64_t *ledger, size_t ledger_length, const uint8_t *marks, size_t marks_length, int64_t *errors, size_t errors_length, uint64_t line, int64_t error);
+
+/* Posts findings by the batch: lines[k] and found[k] are the pair at position k. errors is left as mus_post leaves it, called for the pairs one
+ * after the other; so a later pair for a line replaces the earlier. At the first pair that is refused the call stops, and place is its position: the
+ * pairs before it stay posted, and it and those after it change nothing. So errors is then what the first place pairs leave, and a
+ * caller may mend the pair and post the rest from there. Refusals 13 (for marks or errors, or where lines and found differ in length; nothing is
+ * posted then); then of each pair in turn 20, 14, 15. */
+struct mus_post_result mus_post_all(const uint64_t *ledger, size_t ledger_length, const uint8_t *marks, size_t marks_length, int64_t *errors, size_t errors_length, const uint64_t *lines, size_t lines_length, const int64_t *found, size_t found_length);
 
 /* The tally before the first judgement. */
 struct mus_tally mus_tally_none(void);

@@ -3,10 +3,12 @@
 
 It is written from the rules alone, in exact whole numbers, to be read beside them. It shares nothing with the
 proved program, so that the two can be held against each other. The operations by strata stand in tools/reference_strata.py, the
-program for them in tools/reference_programmes.py, the tally of a season in tools/reference_season.py, the attribute job aid in tools/reference_attributes.py.
+program for them in tools/reference_programmes.py, the tally of a season in tools/reference_season.py, the attribute job aid in tools/reference_attributes.py,
+findings by the batch in tools/reference_findings.py.
 
 An operation takes its inputs and its lent buffers (lists of numbers, or bytearrays), and returns its answer or a
-Refusal (number, place). It stores into a lent buffer only after its last check: a refused call leaves every buffer.
+Refusal (number, place). It stores into a lent buffer only after its last check: a refused call leaves every buffer, but that a batch of findings
+leaves the pairs before the refused one posted.
 
     python3 tools/reference.py check       the practice sheet, and the sums over all starts of random ledgers
     python3 tools/reference.py desk        the desk program: a working file in, its text out
@@ -616,6 +618,7 @@ def main(arguments):
     if arguments == ["check"]:
         import self_test  # they stand on this file
         import self_test_attributes
+        import self_test_findings
         import self_test_programmes
         import self_test_season
         import self_test_strata
@@ -625,6 +628,7 @@ def main(arguments):
         self_test_programmes.run()
         self_test_season.run()
         self_test_attributes.run()
+        self_test_findings.run()
     elif arguments == ["desk"]:
         sys.stdout.buffer.write(desk(sys.stdin.buffer.read()))
     elif arguments == ["factors"]:

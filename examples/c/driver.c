@@ -1,5 +1,5 @@
 /* The test driver of the C interface: every function with good and bad input, zero lengths and null pointers with length 0; that a
- * refused call changes nothing; and the stored cases, whose files it is given. Its last line is its count, its status 0 where
+ * refused call changes nothing, but for a batch of findings; and the stored cases, whose files it is given. Its last line is its count, its status 0 where
  * nothing failed. */
 #include <stdint.h>
 #include <stdio.h>
@@ -471,6 +471,7 @@ int main(int argc, char **argv)
     strata_cases();
     season_cases();
     attribute_cases();
+    findings_cases();
 #ifndef WITHOUT_SHEET
     sheet_cases();
 #endif

@@ -20,11 +20,16 @@ void season_cases(void);
 /* The attribute job aid: table 1, the worked case, each refusal. */
 void attribute_cases(void);
 
+/* Findings by the batch: worked batches, each refusal, and what a call leaves. */
+void findings_cases(void);
+
 /* Stored cases of these operations, for run_vectors. */
 void strata_plan_case(void);
 void strata_draw_case(void);
 void strata_project_case(void);
 void tally_case(void);
+void post_case(void);
+void post_all_case(void);
 
 /* Runs each case of one file through the C interface and compares its line with the other file's: docs/VECTORS.md. */
 void run_vectors(const char *cases, const char *answers);

@@ -93,6 +93,12 @@ void byte_room(void)
     latest_room = room_length;
 }
 
+void mark_room(void)
+{
+    for (size_t i = 0; i < room_length; i++) bytes[i] = (uint8_t) (i < words_length ? words[i] : 0);
+    latest_room = room_length;
+}
+
 /* What every case has, but for a read's file. */
 static void fields(void)
 {

@@ -30,6 +30,9 @@ size_t byte_list(uint8_t *to);
 /* A lent room of bytes, with the content that it has before each call. */
 void byte_room(void);
 
+/* The same with the first words as its content. */
+void mark_room(void);
+
 /* The line begins anew, with the case's number. */
 void say_place(uint64_t place);
 void say(const char *text);

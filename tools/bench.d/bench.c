@@ -78,6 +78,24 @@ static void set_season(void)
 static void call_tally_none(void) { kept = mus_tally_none().added; }
 static void call_tally_add(void) { kept = mus_tally_add(season, 90, UINT64_C(7540113804746346429), UINT64_C(4660046610375530309), MUS_BELOW).tally.worst; }
 
+/* A batch of findings on drawn lines far apart: of both kinds by turns, and each tenth an error of 0. */
+#define PAIRS 1000
+static uint64_t posted_lines[PAIRS];
+static int64_t found[PAIRS];
+
+static void set_findings(void)
+{
+    plain_ledger();
+    memset(marks, MUS_DRAWN, lines);
+    for (size_t k = 0; k < PAIRS; k++) {
+        posted_lines[k] = k * 7919 % lines;
+        found[k] = k % 10 == 0 ? 0 : k % 2 == 0 ? (int64_t) k : -(int64_t) k;
+    }
+}
+
+static void call_post(void) { kept = mus_post(ledger, lines, marks, lines, errors, lines, 7, -7).posted; }
+static void call_post_all(void) { kept = mus_post_all(ledger, lines, marks, lines, errors, lines, posted_lines, PAIRS, found, PAIRS).posted; }
+
 /* The last of either table. */
 static void set_attributes(void) { }
 static void call_attribute_size(void) { kept = mus_attribute_size(99, 10).items; }
@@ -123,6 +141,8 @@ static const struct row {
     {"strata-project", set_strata, call_strata_project},
     {"strata-project-deep", set_strata_deep, call_strata_project},
     {"strata-project-widest", set_strata_widest, call_strata_project},
+    {"post", set_findings, call_post},
+    {"post-all", set_findings, call_post_all},
     {"tally-none", set_season, call_tally_none},
     {"tally-add", set_season, call_tally_add},
     {"attribute-size", set_attributes, call_attribute_size},

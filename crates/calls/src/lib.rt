@@ -1,6 +1,7 @@
 // Every operation, called: its answer in the one shape that the test programs print.
 use answers::Answer;
 use answers::Rest;
+use results::PostResult;
 use results::ProjectResult;
 use results::SplitResult;
 use results::StrataPlanResult;
@@ -159,6 +160,25 @@ pub fn attribute_size(level: u8, tolerance: u8) -> Answer {
 pub fn attribute_bound(level: u8, tolerance: u8, exceptions: u64) -> Answer {
     let r = results::control::of_bound(attributes::bound(level, tolerance, exceptions));
     answer(r.refusal, r.place, [r.hundredths, 0, 0, 0, 0], 1)
+}
+
+// One finding, and findings by the batch.
+fn of_post(r: PostResult) -> Answer {
+    answer(r.refusal, r.place, [r.posted, 0, 0, 0, 0], 1)
+}
+
+pub fn post(ledger: &[u64], marks: &[u8], errors: &mut [i64], line: u64, error: i64) -> Answer {
+    of_post(results::posting::of_post(findings::post(ledger, marks, errors, line, error)))
+}
+
+pub fn post_all(
+    ledger: &[u64],
+    marks: &[u8],
+    errors: &mut [i64],
+    lines: &[u64],
+    found: &[i64],
+) -> Answer {
+    of_post(results::posting::of_post(findings::post_all(ledger, marks, errors, lines, found)))
 }
 
 pub fn read(file: &[u8], words: &mut [u64], values: &mut [u64], errors: &mut [i64]) -> Answer {

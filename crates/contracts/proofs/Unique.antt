@@ -54,6 +54,9 @@ use Rattle.starts.specs.Starts.{StartsPromise}
 use Rattle.reply.proofs.Laws.{reply-once}
 use Rattle.season.proofs.Laws.{add-once}
 use Rattle.attributes.proofs.Answers.{items-once, bound-once}
+use Rattle.findings.specs.Findings.{PostPromise}
+use Rattle.findings.specs.Batch.{PostAllPromise}
+use Rattle.findings.proofs.Answers.{post-once, post-all-once}
 use Rattle.results.specs.Seen.{Sees}
 use Rattle.contracts.specs.Unique.{One, OneWith, Three, NoFreedom}
 
@@ -153,6 +156,12 @@ strata-project-once _ r s p q =
       rows = (p .rows ∙ sym (q .rows)) i;
     }
 
+posts-once : (ledger marks : List ℕ) (errors : List ℤ) (line : ℕ) (error : ℤ) → OneWith (PostPromise ledger marks errors line error)
+posts-once _ _ _ _ _ _ _ _ _ p q = post-once p q
+
+batches-once : (ledger marks : List ℕ) (errors : List ℤ) (lines : List ℕ) (found : List ℤ) → OneWith (PostAllPromise ledger marks errors lines found)
+batches-once _ _ _ _ _ _ _ _ _ p q = post-all-once p q
+
 reads-once : (file words values : List ℕ) (errors : List ℤ) → OneWith (λ r (b : Three). ReadPromise file words values errors r (b .0) (b .1) (b .2))
 reads-once _ _ _ _ _ _ _ _ p q = let same = read-once p q in (same .0, λ i. (same .1 i, same .2 i, same .3 i))
 
@@ -208,6 +217,8 @@ no-freedom =
       attribute-bound = λ _ _ _ _ _ p q. bound-once p q;
       statement = λ _ _ _ _ _ _ _ _ p q. printed-once p q;
       answer-line = λ _ _ _ _ _ _ p q. (p .answer ∙ sym (q .answer), p .page-left ∙ sym (q .page-left));
+      post = posts-once;
+      post-all = batches-once;
       read = reads-once;
       write = writes-once;
       write-then-read = written-then-read-once;
@@ -233,6 +244,8 @@ no-freedom =
       mus-tally-add = λ _ _ _ _ _. sees (λ _ _ p q. add-once p q);
       mus-attribute-size = λ _ _. sees (λ _ _ p q. items-once p q);
       mus-attribute-bound = λ _ _ _. sees (λ _ _ p q. bound-once p q);
+      mus-post = λ ledger marks errors line error. sees-with (posts-once ledger marks errors line error);
+      mus-post-all = λ ledger marks errors lines found. sees-with (batches-once ledger marks errors lines found);
       mus-read = λ file words values errors. sees-with (reads-once file words values errors);
       mus-write = λ plan words values errors file. sees-with (writes-once plan words values errors file);
       mus-sheet = λ file page. sees-with (sheets-once file page);

@@ -16,6 +16,8 @@ use Rattle.start.specs.Start.{startSays, StartPromise}
 use Rattle.draw.specs.Draw.{drawSays, DrawPromise}
 use Rattle.project.specs.Project.{projectSays, ProjectPromise}
 use Rattle.lines.specs.Each.{LinesPromise}
+use Rattle.findings.specs.Findings.{postSays, PostPromise}
+use Rattle.findings.specs.Batch.{PostAllPromise}
 use Rattle.judge.specs.Judge.{judgeSays, JudgePromise}
 use Rattle.judge.specs.declared.JudgeAnswer.{JudgeAnswer}
 use Rattle.season.specs.declared.{Entry.Entry, Tally.Tally}
@@ -47,6 +49,7 @@ use Rattle.reply.specs.Reply.{replyOf, ReplyPromise}
 use Rattle.results.specs.Seen.{Sees}
 use Rattle.results.specs.Results.{sizeSeen, splitSeen, startSeen, drawSeen, projectSeen, judgeSeen, readSeen, writeSeen, sheetSeen}
 use Rattle.results.specs.Control.{itemsSeen, boundSeen}
+use Rattle.results.specs.Findings.{postSeen}
 use Rattle.results.specs.Season.{entryFrom, tallySeen}
 use Rattle.results.specs.Strata.{strataPlanSeen, strataDrawSeen, strataProjectSeen}
 
@@ -92,6 +95,9 @@ pub record NoFreedom : Type 0 where
   pub attribute-bound : (level tolerance exceptions : ℕ) → One (BoundPromise level tolerance exceptions)
   pub statement : (level tolerance exceptions : ℕ) (page : List ℕ) → OneWith (Printed (statementText level tolerance exceptions) page)
   pub answer-line : (text page : List ℕ) → OneWith (LinePromise text page)
+  -- findings, singly and by the batch
+  pub post : (ledger marks : List ℕ) (errors : List ℤ) (line : ℕ) (error : ℤ) → OneWith (PostPromise ledger marks errors line error)
+  pub post-all : (ledger marks : List ℕ) (errors : List ℤ) (lines : List ℕ) (found : List ℤ) → OneWith (PostAllPromise ledger marks errors lines found)
   -- the working file, its sheet, and the text
   pub read : (file words values : List ℕ) (errors : List ℤ) → OneWith (λ r (b : Three). ReadPromise file words values errors r (b .0) (b .1) (b .2))
   pub write : (plan : Plan) (words values : List ℕ) (errors : List ℤ) (file : List ℕ) → OneWith (WritePromise plan words values errors file)
@@ -125,6 +131,10 @@ pub record NoFreedom : Type 0 where
       → One (Sees tallySeen (λ a. a) (AddPromise tally (addOf tally (entryFrom level book limit verdict))))
   pub mus-attribute-size : (level tolerance : ℕ) → One (Sees itemsSeen itemsSays (ItemsPromise level tolerance))
   pub mus-attribute-bound : (level tolerance exceptions : ℕ) → One (Sees boundSeen boundSays (BoundPromise level tolerance exceptions))
+  pub mus-post : (ledger marks : List ℕ) (errors : List ℤ) (line : ℕ) (error : ℤ)
+      → OneWith (λ r b. Sees postSeen postSays (λ a. PostPromise ledger marks errors line error a b) r)
+  pub mus-post-all : (ledger marks : List ℕ) (errors : List ℤ) (lines : List ℕ) (found : List ℤ)
+      → OneWith (λ r b. Sees postSeen postSays (λ a. PostAllPromise ledger marks errors lines found a b) r)
   pub mus-read : (file words values : List ℕ) (errors : List ℤ)
       → OneWith (λ r (b : Three). Sees readSeen readSays (λ a. ReadPromise file words values errors a (b .0) (b .1) (b .2)) r)
   pub mus-write : (plan : Plan) (words values : List ℕ) (errors : List ℤ) (file : List ℕ)

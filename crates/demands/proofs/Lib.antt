@@ -6,4 +6,6 @@ pub mod Strata
 pub mod Worked
 pub mod Practice
 pub mod MoreError
+pub mod Passing
+pub mod Findings
 pub mod MoreErrorStrata

@@ -3,4 +3,5 @@ pub mod Demand3
 pub mod Strata
 pub mod Practice
 pub mod MoreError
+pub mod Findings
 pub mod MoreErrorStrata

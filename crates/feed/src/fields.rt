@@ -83,18 +83,38 @@ pub fn amounts<'a>(input: &[u8], patterns: &mut [u64], amounts: &'a mut [i64]) -
     signs::read(patterns, count, amounts)
 }
 
+// The words from a place on.
+fn rest(words: &[u64], from: usize) -> &[u64] {
+    if from <= words.len() {
+        let count = words.len() - from;
+        return part(words, from, count);
+    }
+    words
+}
+
 // Counts stand in the place of the words, so many of them, and starts after them.
 pub fn counts(words: &[u64], strata: u64) -> &[u64] {
     part(words, 0, strata as usize)
 }
 
 pub fn starts(words: &[u64], strata: u64) -> &[u64] {
-    let from = strata as usize;
-    if from <= words.len() {
-        let rest = words.len() - from;
-        return part(words, from, rest);
-    }
-    words
+    rest(words, strata as usize)
+}
+
+// Of findings the words are the marks, so many of them, then the lines, so many of them, then the errors found.
+pub fn lines(words: &[u64], marks: usize, lines: u64) -> &[u64] {
+    part(words, marks, lines as usize)
+}
+
+pub fn found<'a>(words: &[u64], marks: usize, lines: u64, buffer: &'a mut [i64]) -> &'a mut [i64] {
+    let pairs = rest(words, marks);
+    let patterns = rest(pairs, lines as usize);
+    signs::read(patterns, patterns.len(), buffer)
+}
+
+// The error of one finding, by its pattern.
+pub fn error(pattern: u64) -> i64 {
+    signs::number_of(pattern)
 }
 
 // The file of a read, after the lists; `latest` is the room of bytes that was lent last.

@@ -30,12 +30,14 @@ fn put_name(pen: Pen, page: &mut [u8], operation: u8) -> Pen {
         13 => pen.text(page, b" tally"),
         14 => pen.text(page, b" attributesize"),
         15 => pen.text(page, b" attributebound"),
+        16 => pen.text(page, b" post"),
+        17 => pen.text(page, b" postall"),
         _ => pen.text(page, b" is of no operation"),
     }
 }
 
-// The digests of what was lent: the room or the file, and each list; amounts, or counts and starts, stand in the place of the words. And
-// that of the strata's rows, or of a season's tallies.
+// The digests of what was lent: the room or the file, and each list; amounts, or counts and starts, or a batch of findings, stand in the
+// place of the words. And that of the strata's rows, or of a season's tallies.
 struct Digests {
     bytes: u64,
     ledger: u64,
@@ -80,6 +82,7 @@ fn put_digests(pen: Pen, page: &mut [u8], operation: u8, d: Digests) -> Pen {
         5 | 6 => put_lent(pen, page, &[d.ledger, d.errors]),
         7 => put_lent(pen, page, &[d.bytes, d.words, d.ledger, d.errors]),
         9 => put_lent(pen, page, &[d.ledger, d.errors, d.words]),
+        16 | 17 => put_lent(pen, page, &[d.ledger, d.errors, d.words, d.bytes]),
         10..=12 => put_by_strata(pen, page, operation, d),
         13 => {
             let told = put_rows(pen, page, d.rows);

@@ -1,4 +1,4 @@
-// What a room of bytes holds before a call, and the digest of what a call leaves.
+// What a room of bytes holds before a call, the marks of a batch of findings among them, and the digest of what a call leaves.
 use crate::signs::pattern_of;
 use terms::widen;
 
@@ -13,6 +13,24 @@ pub fn fill(room: &mut [u8]) {
     let mut i: usize = 0;
     while i < room.len() {
         crate::bytes::put(room, i, byte_in(i));
+        i += 1;
+    }
+}
+
+// The byte of a word; past the end of the words 0.
+fn byte_of(words: &[u64], at: usize) -> u8 {
+    if at < words.len() {
+        (words[at] % 256) as u8
+    } else {
+        0
+    }
+}
+
+// A room whose bytes are the first words.
+pub fn fill_from(words: &[u64], room: &mut [u8]) {
+    let mut i: usize = 0;
+    while i < room.len() {
+        crate::bytes::put(room, i, byte_of(words, i));
         i += 1;
     }
 }

@@ -2,7 +2,7 @@
 use parts::signed_to_fill;
 
 // The number of a pattern.
-fn number_of(pattern: u64) -> i64 {
+pub fn number_of(pattern: u64) -> i64 {
     if pattern < 0x8000_0000_0000_0000 {
         return signed::signed_of(pattern, false);
     }

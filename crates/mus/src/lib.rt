@@ -3,5 +3,6 @@
 mod by_strata; // by_strata.rt: the operations by strata
 mod control; // control.rt: the attribute job aid for control tests
 mod file; // file.rt: the working file and its sheet
+mod posting; // posting.rt: findings posted, singly or by the batch
 mod steps; // steps.rt: the steps of the method
 mod tally; // tally.rt: the tally of a season

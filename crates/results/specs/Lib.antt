@@ -3,3 +3,4 @@ pub mod Results
 pub mod Strata
 pub mod Season
 pub mod Control
+pub mod Findings

@@ -5,6 +5,7 @@ use season::Tally;
 pub mod by_strata; // by_strata.rt: answers of the operations by strata
 pub mod control; // control.rt: answers of the attribute job aid
 pub mod file; // file.rt: answers of the working file and its sheet
+pub mod posting; // posting.rt: answers of posting findings
 pub mod steps; // steps.rt: answers of the steps
 pub mod tally; // tally.rt: the tally of a season
 
@@ -137,6 +138,13 @@ pub struct AttributeBoundResult {
     pub refusal: u64,
     pub place: u64,
     pub hundredths: u64,
+}
+
+#[repr(C)]
+pub struct PostResult {
+    pub refusal: u64,
+    pub place: u64,
+    pub posted: u64,
 }
 
 #[repr(C)]

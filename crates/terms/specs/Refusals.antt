@@ -26,6 +26,7 @@ tells Refusal.TooManyErrors = row 16 0
 tells (Refusal.FileBreaksRule byte) = row 17 byte
 tells (Refusal.RoomTooShort needed) = row 18 needed
 tells Refusal.NoLegalFile = row 19 0
+tells (Refusal.LineNotThere position) = row 20 position
 tells Refusal.StrataOutOfRange = row 22 0
 tells Refusal.TooFewDraws = row 23 0
 tells Refusal.UnknownTolerance = row 25 0

@@ -44,6 +44,7 @@ pub enum Refusal {
     FileBreaksRule(u64),
     RoomTooShort(u64),
     NoLegalFile,
+    LineNotThere(u64),
     StrataOutOfRange,
     TooFewDraws,
     UnknownTolerance,
@@ -53,7 +54,7 @@ pub enum Refusal {
     CountsDoNotAdd,
 }
 
-// What a refusal tells: its number in the documents' table, and the place that it names: a line, a byte, a count that is needed, a stratum, or 0.
+// What a refusal tells: its number in the documents' table, and the place that it names: a line, a byte, a count that is needed, a stratum, a pair, or 0.
 pub struct Told {
     pub number: u64,
     pub place: u64,
@@ -89,6 +90,7 @@ pub fn tell(refusal: Refusal) -> Told
         Refusal::FileBreaksRule(byte) => row(17, byte),
         Refusal::RoomTooShort(needed) => row(18, needed),
         Refusal::NoLegalFile => row(19, 0),
+        Refusal::LineNotThere(position) => row(20, position),
         Refusal::StrataOutOfRange => row(22, 0),
         Refusal::TooFewDraws => row(23, 0),
         Refusal::UnknownTolerance => row(25, 0),

@@ -1,6 +1,7 @@
 // Runs every operation on the cases of standard input and writes a line for each: the answer, and a digest of every lent list.
 // The form of the cases is told in docs/VECTORS.md. One case is held at a time.
 mod by_strata; // by_strata.rt: cases by strata
+mod postings; // postings.rt: cases of findings
 mod projected; // projected.rt: cases of the projected lines
 mod reads; // reads.rt: cases of a read
 mod seasons; // seasons.rt: cases of the tally of a season
@@ -16,7 +17,7 @@ fn numbers() -> [u64; 105_000]
     [0; 105_000]
 }
 
-// Room for the errors of a case; and for the amounts of projected lines.
+// Room for the errors of a case; and for the amounts of projected lines, or the errors that a batch of findings has.
 fn signed_numbers() -> [i64; 100_000]
     ensures { λ r. ⌜ 100000 ≡ length r ⌝ }
 {
@@ -44,6 +45,7 @@ fn run(
         9 => projected::run(number, case, numbers, errors, amounts),
         10..=12 => by_strata::run(number, case, numbers, errors, room),
         13 => seasons::run(number, case, numbers),
+        16 | 17 => postings::run(number, case, numbers, errors, amounts, room),
         _ => steps::run(number, case, numbers, errors, room),
     }
 }

@@ -1,0 +1,3 @@
+pub mod Findings
+pub mod Batch
+pub mod OneByOne

@@ -266,6 +266,12 @@ struct mus_draw_result mus_draw(const uint64_t *ledger, size_t ledger_length, ui
  * apart. Refusals 2, 13, 3, 4, 5, 8, 11, 14, 15. */
 struct mus_project_result mus_project(const uint64_t *ledger, size_t ledger_length, uint64_t n, uint64_t start, const int64_t *errors, size_t errors_length);
 
+/* The blackboard method: the draw and the projection by walking. For each drawing point lines are counted off from the first until the point is
+ * covered, so a call takes points x lines steps; it is for a class, and for a check. Every answer, mark and refusal is that of mus_draw and of
+ * mus_project, which is proved. Refusals 2, 13, 3, 4, 5, 8, 11; the projection 14 and 15 besides. */
+struct mus_draw_result mus_board_draw(const uint64_t *ledger, size_t ledger_length, uint64_t n, uint64_t start, uint8_t *marks, size_t marks_length);
+struct mus_project_result mus_board_project(const uint64_t *ledger, size_t ledger_length, uint64_t n, uint64_t start, const int64_t *errors, size_t errors_length);
+
 /* The same projection, line by line: answers what mus_project answers, and writes for each line what it projects into amounts, which has an
  * entry for each line: its error where it is full, its amount with the error's sign where it is drawn, 0 elsewhere. They add to net. A
  * program never has to multiply by the interval itself. Refusals 2, 13 (for errors or amounts), 3, 4, 5, 8, 11, 14, 15. */

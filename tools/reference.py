@@ -4,7 +4,8 @@
 It is written from the rules alone, in exact whole numbers, to be read beside them. It shares nothing with the
 proved program, so that the two can be held against each other. The operations by strata stand in tools/reference_strata.py, the
 program for them in tools/reference_programmes.py, the tally of a season in tools/reference_season.py, the attribute job aid in tools/reference_attributes.py,
-findings by the batch in tools/reference_findings.py, two teams on one ledger in tools/reference_teams.py.
+findings by the batch in tools/reference_findings.py, two teams on one ledger in tools/reference_teams.py,
+the blackboard method in tools/reference_board.py.
 
 An operation takes its inputs and its lent buffers (lists of numbers, or bytearrays), and returns its answer or a
 Refusal (number, place). It stores into a lent buffer only after its last check: a refused call leaves every buffer, but that a batch of findings
@@ -618,6 +619,7 @@ def main(arguments):
     if arguments == ["check"]:
         import self_test  # they stand on this file
         import self_test_attributes
+        import self_test_board
         import self_test_findings
         import self_test_programmes
         import self_test_season
@@ -631,6 +633,7 @@ def main(arguments):
         self_test_attributes.run()
         self_test_findings.run()
         self_test_teams.run()
+        self_test_board.run()
     elif arguments == ["desk"]:
         sys.stdout.buffer.write(desk(sys.stdin.buffer.read()))
     elif arguments == ["factors"]:

@@ -473,6 +473,7 @@ int main(int argc, char **argv)
     attribute_cases();
     findings_cases();
     team_cases();
+    board_cases();
 #ifndef WITHOUT_SHEET
     sheet_cases();
 #endif

@@ -16,6 +16,8 @@ use Rattle.start.specs.Start.{startSays, StartPromise}
 use Rattle.draw.specs.Draw.{drawSays, DrawPromise}
 use Rattle.project.specs.Project.{projectSays, ProjectPromise}
 use Rattle.lines.specs.Each.{LinesPromise}
+use Rattle.blackboard.specs.Draw.{boardDrawSays, BoardDrawPromise}
+use Rattle.blackboard.specs.Project.{boardProjectSays, BoardProjectPromise}
 use Rattle.findings.specs.Findings.{postSays, PostPromise}
 use Rattle.findings.specs.Batch.{PostAllPromise}
 use Rattle.teams.specs.Teams.{TeamSplitPromise, TeamDrawPromise, TeamPostPromise, TeamPostAllPromise}
@@ -49,6 +51,7 @@ use Rattle.starts.specs.Starts.{startsOf, StartsPromise}
 use Rattle.reply.specs.Reply.{replyOf, ReplyPromise}
 use Rattle.results.specs.Seen.{Sees}
 use Rattle.results.specs.Results.{sizeSeen, splitSeen, startSeen, drawSeen, projectSeen, judgeSeen, readSeen, writeSeen, sheetSeen}
+use Rattle.results.specs.Walked.{boardProjectSeen}
 use Rattle.results.specs.Control.{itemsSeen, boundSeen}
 use Rattle.results.specs.Findings.{postSeen}
 use Rattle.results.specs.Season.{entryFrom, tallySeen}
@@ -78,6 +81,9 @@ pub record NoFreedom : Type 0 where
   pub draw : (ledger : List ℕ) (n start : ℕ) (marks : List ℕ) → OneWith (DrawPromise ledger n start marks)
   pub project : (ledger : List ℕ) (n start : ℕ) (errors : List ℤ) → One (ProjectPromise ledger n start errors)
   pub project-lines : (ledger : List ℕ) (n start : ℕ) (errors amounts : List ℤ) → OneWith (LinesPromise ledger n start errors amounts)
+  -- the blackboard method
+  pub board-draw : (ledger : List ℕ) (n start : ℕ) (marks : List ℕ) → OneWith (BoardDrawPromise ledger n start marks)
+  pub board-project : (ledger : List ℕ) (n start : ℕ) (errors : List ℤ) → One (BoardProjectPromise ledger n start errors)
   pub judge : (percent : ℕ) (ledger : List ℕ) (n start : ℕ) (errors : List ℤ) (te : ℕ) → One (JudgePromise percent ledger n start errors te)
   pub steps : (plan : Plan) (words ledger : List ℕ) (errors : List ℤ) → One (StepsPromise plan words ledger errors)
   -- the ledger by strata; what the others start from too
@@ -125,6 +131,8 @@ pub record NoFreedom : Type 0 where
   pub mus-project : (ledger : List ℕ) (n start : ℕ) (errors : List ℤ) → One (Sees projectSeen projectSays (ProjectPromise ledger n start errors))
   pub mus-project-lines : (ledger : List ℕ) (n start : ℕ) (errors amounts : List ℤ)
       → OneWith (λ r b. Sees projectSeen projectSays (λ a. LinesPromise ledger n start errors amounts a b) r)
+  pub mus-board-draw : (ledger : List ℕ) (n start : ℕ) (marks : List ℕ) → OneWith (λ r b. Sees drawSeen boardDrawSays (λ a. BoardDrawPromise ledger n start marks a b) r)
+  pub mus-board-project : (ledger : List ℕ) (n start : ℕ) (errors : List ℤ) → One (Sees boardProjectSeen boardProjectSays (BoardProjectPromise ledger n start errors))
   pub mus-judge : (percent : ℕ) (ledger : List ℕ) (n start : ℕ) (errors : List ℤ) (te : ℕ)
       → One (Sees judgeSeen judgeSays (JudgePromise percent ledger n start errors te))
   pub mus-strata-plan : (ledger counts : List ℕ) (n : ℕ) → One (Sees strataPlanSeen (λ a. a) (PlanPromise (planOf ledger counts n true)))

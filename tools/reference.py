@@ -12,7 +12,7 @@ Refusal (number, place). It stores into a lent buffer only after its last check:
 leaves the pairs before the refused one posted.
 
     python3 tools/reference.py check       the practice sheet, and the sums over all starts of random ledgers
-    python3 tools/reference.py desk        the desk program: a working file in, its text out
+    python3 tools/reference.py desk        the desk program: a working file in, or the byte 0x42 and one, its text out
     python3 tools/reference.py factors     the nine rows of sixty-four factors
 """
 
@@ -607,10 +607,15 @@ def desk_lines(file):
     yield text_line("judge", precision, upper_limit, verdict)
 
 
-def desk(file):
-    """The whole output for the bytes of standard input."""
+def file_given(given):
+    """The working file in the bytes of standard input: what follows one byte 0x42, with which the blackboard method is asked for, or all of them."""
+    return given[1:] if given[:1] == b"\x42" else given
+
+
+def desk(given):
+    """The whole output for the bytes of standard input. Both methods give the same lines (tools/reference_board.py), and places count no byte before the file."""
     try:
-        return "".join(desk_lines(file)).encode()
+        return "".join(desk_lines(file_given(given))).encode()
     except Refused as refused:
         return text_line("refused", *refused.refusal).encode()
 

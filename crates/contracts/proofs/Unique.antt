@@ -158,7 +158,7 @@ written-then-read-once _ _ _ _ _ _ _ _ _ _ _ _ p q = let same = write-read-once 
 read-then-written-once : (file again : List ℕ) → OneWith (ReadThenWrite file again)
 read-then-written-once _ _ _ _ _ _ p q = read-write-once p q
 
-sheets-once : (file page : List ℕ) → OneWith (SheetPromise file page)
+sheets-once : (input page : List ℕ) → OneWith (SheetPromise input page)
 sheets-once _ _ _ _ _ _ p q = sheet-once p q
 
 -- where a promise leaves one answer, it leaves one result for C
@@ -243,5 +243,5 @@ no-freedom =
       mus-team-post-all = λ _ _ marks _ _ _. sees-with (λ _ _ _ _ p q. team-post-all-once marks p q);
       mus-read = λ file words values errors. sees-with (reads-once file words values errors);
       mus-write = λ plan words values errors file. sees-with (writes-once plan words values errors file);
-      mus-sheet = λ file page. sees-with (sheets-once file page);
+      mus-sheet = λ input page. sees-with (sheets-once input page);
     }

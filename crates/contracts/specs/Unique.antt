@@ -41,7 +41,7 @@ use Rattle.workfile.specs.declared.Plan.{Plan}
 use Rattle.workfile.specs.Promises.{readSays, writeSays, ReadPromise, WritePromise}
 use Rattle.roundtrip.specs.RoundTrip.{WriteThenRead, ReadThenWrite}
 use Rattle.pen.specs.Page.{Printed}
-use Rattle.sheet.specs.Sheet.{sheetText, sheetSays, SheetPromise}
+use Rattle.sheet.specs.Sheet.{deskText, sheetSays, SheetPromise}
 use Rattle.entry.specs.declared.Notation.{Notation}
 use Rattle.notation.specs.declared.Fault.{Fault}
 use Rattle.notation.specs.Parse.{ParsePromise}
@@ -116,8 +116,8 @@ pub record NoFreedom : Type 0 where
   pub write-then-read : (plan : Plan) (words values : List ℕ) (errors : List ℤ) (file words-before values-before : List ℕ) (errors-before : List ℤ)
       → OneWith (λ r (b : List ℕ × Three). WriteThenRead plan words values errors file words-before values-before errors-before r (b .0) (b .1 .0) (b .1 .1) (b .1 .2))
   pub read-then-write : (file again : List ℕ) → OneWith (ReadThenWrite file again)
-  pub sheet : (file page : List ℕ) → OneWith (Printed (sheetText file) page)
-  pub sheet-in : (file page : List ℕ) → OneWith (SheetPromise file page)
+  pub sheet : (input page : List ℕ) → OneWith (Printed (deskText input) page)
+  pub sheet-in : (input page : List ℕ) → OneWith (SheetPromise input page)
   pub parse : (by : Notation) (text words values : List ℕ) (errors : List ℤ) → OneWith (λ r (b : Three). ParsePromise by text words values errors r (b .0) (b .1) (b .2))
   pub print-fault : (by : Notation) (fault : Fault) (page : List ℕ) → OneWith (Printed (faultText by fault) page)
   pub divide : (text : List ℕ) → One (λ r. r ≡ storedIn (dividedOf text))
@@ -161,4 +161,4 @@ pub record NoFreedom : Type 0 where
       → OneWith (λ r (b : Three). Sees readSeen readSays (λ a. ReadPromise file words values errors a (b .0) (b .1) (b .2)) r)
   pub mus-write : (plan : Plan) (words values : List ℕ) (errors : List ℤ) (file : List ℕ)
       → OneWith (λ r b. Sees writeSeen writeSays (λ a. WritePromise plan words values errors file a b) r)
-  pub mus-sheet : (file page : List ℕ) → OneWith (λ r b. Sees sheetSeen sheetSays (λ a. SheetPromise file page a b) r)
+  pub mus-sheet : (input page : List ℕ) → OneWith (λ r b. Sees sheetSeen sheetSays (λ a. SheetPromise input page a b) r)

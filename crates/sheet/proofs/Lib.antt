@@ -4,6 +4,7 @@ pub mod Written
 pub mod Room
 pub mod Reading
 pub mod Paging
+pub mod Inputs
 pub mod FirstBytes
 pub mod OneText
 pub mod Worked

@@ -355,8 +355,10 @@ struct mus_read_result mus_read(const uint8_t *file, size_t file_length, uint64_
 struct mus_write_result mus_write(uint8_t level, uint64_t te, uint64_t ae, const uint64_t *words, size_t words_length, const uint64_t *values, size_t values_length, const int64_t *errors, size_t errors_length, uint8_t *file, size_t file_length);
 
 /* Prints the sheet of a working file: the desk program's whole text, or its line "refused", number and place where the file or a step
- * is refused. page has room for at least MUS_LONGEST_TEXT bytes; bytes past the text stay as they were. Refusal 18, for the page alone. */
-struct mus_sheet_result mus_sheet(const uint8_t *file, size_t file_length, uint8_t *page, size_t page_length);
+ * is refused. Where the input begins with the byte 0x42 the file is what follows it, and the draw and the projection go by the blackboard method: the
+ * text is the same, places too, and it takes points x lines steps. Only the first byte is taken so. page has room for at least
+ * MUS_LONGEST_TEXT bytes; bytes past the text stay as they were. Refusal 18, for the page alone. */
+struct mus_sheet_result mus_sheet(const uint8_t *input, size_t input_length, uint8_t *page, size_t page_length);
 
 #ifdef __cplusplus
 }

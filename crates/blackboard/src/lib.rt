@@ -1,6 +1,6 @@
 // The blackboard method, request K12: the draw and the projection as a teacher walks them, counting lines off from the first for each point.
-mod points; // points.rt: counting off to a point, and the marks
-mod sums; // sums.rt: the lines added up by their marks
+pub mod points; // points.rt: counting off to a point, and the marks
+pub mod sums; // sums.rt: the lines added up by their marks
 
 use crate::points::mark_lines;
 use crate::sums::add_up;
@@ -54,9 +54,9 @@ pub enum BoardProjectAnswer {
 }
 
 // A drawing point, and the line at which counting off to it stops.
-struct Walker {
-    point: u64,
-    stop: usize,
+pub struct Walker {
+    pub point: u64,
+    pub stop: usize,
 }
 
 // The figures, or 11 where no walk begins at the start.

@@ -16,7 +16,7 @@ ghost use Rattle.blackboard.specs.Project.{boardAmount, boardProjectSays
 ghost use Rattle.blackboard.specs.Steps.{OnBoard, addSays, markWhere, walkerAfter, SumRoom, KindsRoom, SmallSums, ToAdd};
 
 // The amount of a drawn line: error × interval / value, rounded up once, exact beyond 64 bits.
-fn board_amount(value: u64, error: u64, interval: u64) -> u64
+pub fn board_amount(value: u64, error: u64, interval: u64) -> u64
     requires { ⌜ (0 < value) × (value ≤ interval) × (error ≤ value) × (interval ≤ mostInterval) ⌝ }
     ensures { λ r. ⌜ (r ≡ boardAmount interval value error) × (r ≤ interval) ⌝ }
 {
@@ -24,7 +24,7 @@ fn board_amount(value: u64, error: u64, interval: u64) -> u64
 }
 
 // The mark of a line, while the counting stops at the line `stop`.
-fn mark_where(value: u64, interval: u64, line: usize, stop: usize) -> u8
+pub fn mark_where(value: u64, interval: u64, line: usize, stop: usize) -> u8
     ensures { λ r. ⌜ r ≡ markWhere interval value line stop ⌝ }
 {
     if value > interval {
@@ -99,7 +99,7 @@ fn add_line(
 }
 
 // After a line: to the next point, where the counting stopped at that line.
-fn walk_on(ledger: &[u64], interval: u64, at: Walker, line: usize) -> Walker
+pub fn walk_on(ledger: &[u64], interval: u64, at: Walker, line: usize) -> Walker
     requires { ⌜ OnBoard interval (now ledger) × (at .point ≤ mostTotal + mostInterval) ⌝ }
     ensures { λ r. ⌜ r ≡ walkerAfter interval (now (ledger .entry)) at line ⌝ }
 {

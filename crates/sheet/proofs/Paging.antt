@@ -18,7 +18,7 @@ use Rattle.sheet.specs.declared.SheetAnswer.the-variants.{Printed, Refus
 use Rattle.steps.specs.declared.StepsAnswer.{StepsAnswer}
 use Rattle.steps.specs.declared.StepsAnswer.the-variants as steps
 use Rattle.steps.specs.Steps.{stepsSays, stepsOf, StepsPromise, Shown}
-use Rattle.steps.proofs.Accepted.{steps-shown}
+use Rattle.steps.proofs.Accepted.{steps-shown, steps-early}
 use Rattle.sheet.specs.Lines.{answersText, refusedLine}
 use Rattle.sheet.specs.Sheet.{textBy, stepsText, deskText, longestText, sheetOf, SheetPromise}
 
@@ -43,8 +43,11 @@ module _ (plan : Plan) (words ledger : List ℕ) (errors : List ℤ) {r : StepsA
       Page.Wrote o a (stepsText plan words ledger errors) o′ a′ × (length (stepsText plan words ledger errors) ≤ 464 + 90 * length ledger)
   content-answered is p w = as-bounded (steps-text plan words ledger errors (sym (ap stepsSays is) ∙ p .answer)) (omega arith) w
 
-  pub content-shown : {answers : Answers} → r ≡ steps.Answered answers → StepsPromise plan words ledger errors r → Shown 0 (answers .figures .interval) ledger errors
-  content-shown is p = steps-shown plan words ledger errors _ (sym (ap stepsSays is) ∙ p .answer)
+  pub content-shown : {answers : Answers} → r ≡ steps.Answered answers → StepsPromise plan words ledger errors r →
+      Shown 0 (answers .figures .interval) ledger errors × (answers .chosen .start ≤ answers .figures .interval)
+  content-shown is p =
+      let e = sym (ap stepsSays is) ∙ p .answer in
+      (steps-shown plan words ledger errors _ e, steps-early plan words ledger errors _ e)
 
 module _ (input page : List ℕ) where
   short : length page < longestText → sheetOf input (length page) ≡ refused 18 longestText

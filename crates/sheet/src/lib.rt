@@ -1,5 +1,6 @@
 // The desk program's whole text, from the bytes of its input: a working file, or the byte 0x42 and a working file.
 pub mod lines; // lines.rt: the lines of the sheet
+mod walked; // walked.rt: the drawn and full lines by the blackboard method
 
 use pen::Pen;
 use steps::StepsAnswer;
@@ -24,10 +25,11 @@ pub enum SheetAnswer {
     Refused(Refusal),
 }
 
-// The text of a file's content.
+// The text of a file's content, by either method.
 fn print_content(
     pen: Pen,
     page: &mut [u8],
+    board: bool,
     plan: Plan,
     words: &[u64],
     ledger: &[u64],
@@ -36,14 +38,16 @@ fn print_content(
     ensures { λ r. ⌜ Wrote (now (page .entry)) (pen .at) (stepsText plan (now (words .entry)) (now (ledger .entry)) (now (errors .entry))) (now (page .exit)) (r .at) ⌝ }
     ensures { λ r. ⌜ length (stepsText plan (now (words .entry)) (now (ledger .entry)) (now (errors .entry))) ≤ 464 + 90 * length (now (ledger .entry)) ⌝ }
 {
-    match steps::steps(plan, words, ledger, errors) {
+    match steps::steps(board, plan, words, ledger, errors) {
         StepsAnswer::Refused(why) => lines::refused_line(pen, page, why),
-        StepsAnswer::Answered(answers) => lines::answers_text(pen, page, answers, ledger, errors),
+        StepsAnswer::Answered(answers) => {
+            lines::answers_text(pen, page, board, answers, ledger, errors)
+        }
     }
 }
 
-// The text of a file.
-fn print_file(pen: Pen, page: &mut [u8], file: &[u8]) -> Pen
+// The text of a file, by either method.
+fn print_file(pen: Pen, page: &mut [u8], board: bool, file: &[u8]) -> Pen
     ensures { λ r. ⌜ Wrote (now (page .entry)) (pen .at) (sheetText (now (file .entry))) (now (page .exit)) (r .at) ⌝ }
     ensures { λ r. ⌜ length (sheetText (now (file .entry))) ≤ longestText ⌝ }
 {
@@ -63,6 +67,7 @@ fn print_file(pen: Pen, page: &mut [u8], file: &[u8]) -> Pen
             print_content(
                 pen,
                 page,
+                board,
                 plan,
                 &words[..count],
                 &values[..lines],
@@ -88,9 +93,9 @@ fn print_input(pen: Pen, page: &mut [u8], input: &[u8]) -> Pen
     ensures { λ r. ⌜ length (deskText (now (input .entry))) ≤ longestText ⌝ }
 {
     if by_board(input) {
-        return print_file(pen, page, &input[1..]);
+        return print_file(pen, page, true, &input[1..]);
     }
-    print_file(pen, page, input)
+    print_file(pen, page, false, input)
 }
 
 // The text of an input at the start of a page that holds every text; answers how many bytes it is.

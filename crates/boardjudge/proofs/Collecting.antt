@@ -23,7 +23,7 @@ use Rattle.project.specs.Lines.{countPart}
 use Rattle.project.specs.Project.{linesWith}
 use Rattle.project.specs.Gather.{keptBy, keptFrom}
 use Rattle.project.proofs.Lines.{lines-length}
-use Rattle.project.proofs.Kept.{kept-sorted}
+use Rattle.project.proofs.Kept.{kept-length, kept-sorted}
 use Rattle.blackboard.specs.declared.Walker.{Walker}
 use Rattle.blackboard.specs.Board.{stopAt}
 use Rattle.blackboard.specs.Steps.{markWhere, walkerAfter}
@@ -51,6 +51,7 @@ pub record Collecting (J start : ℕ) (ledger : List ℕ) (errors : List ℤ) (b
   pub stands : Standing J start ledger item at
   pub few : m ≤ item
   pub kept : keptFrom (drop item (overs J start ledger errors)) m amounts ≡ keptFrom (overs J start ledger errors) 0 before
+  pub same : length amounts ≡ length before
   pub fall : Sorted (take m amounts)
 
 pub collecting-none : {J start : ℕ} {ledger : List ℕ} {errors : List ℤ} {before : List ℕ} {first : ℕ} → Walkable J start ledger errors → first ≡ stopAt J ledger start →
@@ -62,6 +63,7 @@ collecting-none {J} {start} {ledger} {first = first} given e =
       stands = standing-first J start ledger first (given .given .board) (given .given .early) e;
       few = zero-le;
       kept = refl;
+      same = refl;
       fall = tt;
     }
 
@@ -112,6 +114,7 @@ module _ {J start : ℕ} {ledger : List ℕ} {errors : List ℤ} {before : List 
             stands = subst (Standing J start ledger (item + 1)) (sym went) (standing-on J start ledger item at (by .stands) more (by .given .given .board));
             few = omega (arith, by .few, counts, one-most (line .state) (line .error));
             kept = (λ i. keptFrom later (counts i) (keeps i)) ∙ ap (λ (ls : List Line). keptFrom ls m amounts) (sym on) ∙ by .kept;
+            same = ap length keeps ∙ kept-length amounts m (line .state) (line .error) ∙ by .same;
             fall = subst (λ (l : List ℕ). Sorted (take m′ l)) (sym keeps)
                 (subst (λ (n : ℕ). Sorted (take n (keptBy amounts m (line .state) (line .error)))) (sym counts) (kept-sorted amounts m (line .state) (line .error) (by .fall)));
           }

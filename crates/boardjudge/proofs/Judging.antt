@@ -6,7 +6,7 @@ use mathlib.Core.List.{List, []}
 use lib.IntN.{ℤ}
 use lib.ListN.{length, take}
 use Rattle.terms.specs.declared.Refusal.{Refusal}
-use Rattle.terms.specs.Outcome.{Outcome, accepted, refusedBy}
+use Rattle.terms.specs.Outcome.{refusedBy}
 use Rattle.terms.specs.Limits.{mostErrors}
 use Rattle.factors.specs.declared.Level.{Level}
 use Rattle.signed.specs.declared.Part.the-variants.{Overstated, Size}

@@ -1,9 +1,9 @@
 // The overstated amounts of the drawn lines, sorted, while the walk goes on beside the lines.
+use crate::marked_line;
 use blackboard::Walker;
 use blackboard::points::count_off;
 use blackboard::sums::mark_where;
 use blackboard::sums::walk_on;
-use crate::marked_line;
 use project::Line;
 use project::State;
 use terms::Cent;
@@ -43,13 +43,7 @@ fn counted(m: usize, line: Line) -> usize
     let state = line.state;
     match state {
         State::NotDrawn => m,
-        State::Drawn(_) => {
-            if 0 < line.error {
-                m + 1
-            } else {
-                m
-            }
-        }
+        State::Drawn(_) => { if 0 < line.error { m + 1 } else { m } }
         State::Full => m,
     }
 }

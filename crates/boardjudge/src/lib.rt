@@ -1,9 +1,9 @@
 // The judgement by the blackboard method, request K12: projection and amounts by walking, and what follows from them as in the first judgement.
 mod amounts; // amounts.rt: the amounts of the drawn lines
 
+use crate::amounts::collect;
 use blackboard::BoardProjectAnswer;
 use blackboard::BoardProjection;
-use crate::amounts::collect;
 use factors::Level;
 use factors::LevelAnswer;
 use judge::JudgeAnswer;

@@ -2,7 +2,6 @@
 use Prim.Native.Nat.{ℕ, _+_, _≤_, _<_}
 use native.Mathlib.Omega.{arith}
 use mathlib.Core.Path.{_≡_, sym, ap, _∙_}
-use mathlib.Core.Bool.{true, false}
 use mathlib.Core.List.{List}
 use mathlib.Core.Logic.{⊎-elim}
 use borrow.Author.Tests.{lt-ltb, le-ltb, eq-eqb, ne-eqb}
@@ -10,7 +9,7 @@ use lib.ListN.{length, getD, List·getD-eq-default}
 use Rattle.terms.proofs.Tests.{le-or-lt}
 use Rattle.entry.specs.declared.Run.{Run}
 use Rattle.entry.specs.Steps.{Reached}
-use Rattle.pack.specs.Method.{afterBlanks, endsAt, placeBy, letterPlace}
+use Rattle.pack.specs.Method.{afterBlanks, placeBy, letterPlace}
 
 module _ (text : List ℕ) {at : ℕ} (blanks : Reached Run.Blanks text 0 at) where
   place : letterPlace text ≡ placeBy text at (afterBlanks text (at + 1))

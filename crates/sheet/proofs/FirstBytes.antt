@@ -5,7 +5,7 @@ use mathlib.Core.Path.{_≡_, sym, ap, _∙_}
 use mathlib.Core.Bool.{Bool, true, false}
 use mathlib.Core.List.{List}
 use lib.Dec.{eqb}
-use lib.ListN.{getD, take, drop}
+use lib.ListN.{take, drop}
 use lib.Seq.{getD-take, take-take}
 use Rattle.terms.specs.Numbers.{pick}
 use Rattle.workfile.proofs.Records.{drop-take}

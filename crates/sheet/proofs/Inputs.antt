@@ -1,7 +1,7 @@
 -- The file of an input, with the byte 0x42 before it and without. Assumes nothing.
-use Prim.Native.Nat.{ℕ, _≤_, _<_}
+use Prim.Native.Nat.{ℕ, _≤_}
 use native.Mathlib.Omega.{arith}
-use mathlib.Core.Path.{_≡_, refl, ap, _∙_}
+use mathlib.Core.Path.{_≡_, refl}
 use mathlib.Core.Bool.{true, false}
 use mathlib.Core.List.{List, [], _∷_}
 use borrow.Author.Tests.{eqb-true}
@@ -18,9 +18,9 @@ module _ (input : List ℕ) where
   pub byte-there : byBoard input ≡ true → 1 ≤ length input
   byte-there by = some input (eqb-true (getD input 0 0) 0x42 by)
     where
-    some : (l : List ℕ) → getD l 0 0 ≡ 0x42 → 1 ≤ length l
-    some [] e = absurd (omega (arith, e))
-    some (b ∷ bs) e = omega arith
+      some : (l : List ℕ) → getD l 0 0 ≡ 0x42 → 1 ≤ length l
+      some [] e = absurd (omega (arith, e))
+      some (b ∷ bs) e = omega arith
 
   pub after-byte : byBoard input ≡ true → deskText input ≡ sheetText (drop 1 input)
   unfolding deskText fileOf

@@ -1,9 +1,9 @@
 // The drawn and full lines of the sheet by the blackboard method: each by its mark, while the walk goes on beside them.
+use crate::lines::item_line;
 use blackboard::Walker;
 use blackboard::points::count_off;
 use blackboard::sums::mark_where;
 use blackboard::sums::walk_on;
-use crate::lines::item_line;
 use pen::Pen;
 use terms::Cent;
 ghost use Rattle.signed.specs.declared.Part.the-variants.{Size};

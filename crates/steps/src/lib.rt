@@ -56,7 +56,14 @@ fn judge_by(
             planned.te,
         );
     }
-    judge::judge(planned.level, ledger, planned.draws, start, errors, planned.te)
+    judge::judge(
+        planned.level,
+        ledger,
+        planned.draws,
+        start,
+        errors,
+        planned.te,
+    )
 }
 
 // The judgement: 14 and 15 line by line, then 16.
@@ -141,13 +148,7 @@ fn sized(
 }
 
 // The ledger: 2, 13, then 3 and 4 line by line, then 5.
-fn totalled(
-    board: bool,
-    plan: Plan,
-    words: &[u64],
-    ledger: &[u64],
-    errors: &[i64],
-) -> StepsAnswer
+fn totalled(board: bool, plan: Plan, words: &[u64], ledger: &[u64], errors: &[i64]) -> StepsAnswer
     ensures { λ r. ⌜ stepsSays r ≡ totalledFrom plan (now (words .entry)) (now (ledger .entry)) (now (errors .entry)) ⌝ }
 {
     match ledger::judge_ledger(ledger, errors.len()) {
@@ -157,13 +158,7 @@ fn totalled(
 }
 
 // All steps, from the level on: 1. With `board` the judgement goes by the blackboard method, and nothing else changes.
-pub fn steps(
-    board: bool,
-    plan: Plan,
-    words: &[u64],
-    ledger: &[u64],
-    errors: &[i64],
-) -> StepsAnswer
+pub fn steps(board: bool, plan: Plan, words: &[u64], ledger: &[u64], errors: &[i64]) -> StepsAnswer
     ensures { λ r. ⌜ StepsPromise plan (now (words .entry)) (now (ledger .entry)) (now (errors .entry)) r ⌝ }
 {
     match factors::level_of(plan.level) {

@@ -1,5 +1,4 @@
 -- `boardjudge::marked_line` meets its contract: each return by the tests that led there. Assumes nothing.
-use borrow.Author.Needs.{needs}
 use Rattle.boardjudge.proofs.Marks.{is-full, is-drawn, drawn-fits, is-neither}
 use Rattle.boardjudge.proofs.marked_line.Statement.{statement}
 use Rattle.boardjudge.proofs.marked_line.Tie as tie

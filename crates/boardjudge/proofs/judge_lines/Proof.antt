@@ -11,7 +11,7 @@ judge-lines-spec =
     (λ c κs. search to-add) (λ c. search needs) (λ c. search needs)
     (λ c. search needs)
     (λ c κs. search walkable)
-    (λ c. search needs)
+    (λ c. search needs) (λ c. search needs)
     (λ c κs. search board-concludable)
     (λ c. search board-refused)
     (λ c. search board-judged))

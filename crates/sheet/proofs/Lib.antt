@@ -1,6 +1,6 @@
 -- What the proofs of several functions use, and what callers cite.
 pub mod Items
-pub mod Walked
+pub mod ByMarks
 pub mod Written
 pub mod Room
 pub mod Reading

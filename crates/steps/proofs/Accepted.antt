@@ -53,7 +53,7 @@ split-shown p words ledger errors a e =
       within = judge-facts (p .level) ledger (p .draws) (s .start) errors (p .te) (g .0) (g .1) .errors-within;
     } in
     let chosen : s ≡ a .chosen = let w : accepted (answersWith p f s (g .0)) ≡ accepted a = g .2 in cc in
-    (shown, rw (← same) (facts .a-draw), rw (← same, ← chosen) (start-early (f .interval) words s (d .1)))
+    (shown, rw (← same) (facts .a-draw), omega (arith, start-early (f .interval) words s (d .1), ap (λ (x : Chosen). x .start) chosen, ap (λ (x : Figures). x .interval) same))
 
 -- from the level on
 steps-accepted : (plan : Plan) (words ledger : List ℕ) (errors : List ℤ) (a : Answers) → accepted a ≡ stepsOf plan words ledger errors →

@@ -1,6 +1,6 @@
 -- `sheet::lines::lines_by` meets its contract: either method writes the same text. Assumes nothing.
 use borrow.Author.Needs.{needs}
-use Rattle.sheet.proofs.Walked.{shown-walkable}
+use Rattle.sheet.proofs.ByMarks.{shown-walkable}
 use Rattle.sheet.proofs.lines.lines_by.Statement.{statement}
 use Rattle.sheet.proofs.lines.lines_by.Tie as tie
 

@@ -1,6 +1,6 @@
 -- `sheet::walked::walked_line` meets its contract: the size and the sign are those of the error. Assumes nothing.
 use borrow.Author.Needs.{needs}
-use Rattle.sheet.proofs.Walked.{size-fits, marked-written}
+use Rattle.sheet.proofs.ByMarks.{size-fits, marked-written}
 use Rattle.sheet.proofs.walked.walked_line.Statement.{statement}
 use Rattle.sheet.proofs.walked.walked_line.Tie as tie
 

@@ -4,7 +4,7 @@ use borrow.Author.Needs.{needs}
 use native.Mathlib.Omega.{arith}
 use Prim.Native.Nat.{_-_}
 use lib.ListN.{length}
-use Rattle.sheet.proofs.Walked.{Walked, walked-first, walked-fits, walked-more, walked-end}
+use Rattle.sheet.proofs.ByMarks.{Walked, walked-first, walked-fits, walked-more, walked-end}
 use Rattle.sheet.proofs.walked.walked_lines.Statement.{statement}
 use Rattle.sheet.proofs.walked.walked_lines.Tie as tie
 

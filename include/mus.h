@@ -28,13 +28,13 @@
  *     mus_judge               1,560   1,168 + 48 r          5,488
  *     mus_strata_plan         7,792   7,744 + 48 r         12,064
  *     mus_strata_draw         6,512   6,464 + 48 r         10,784
- *     mus_strata_project     10,912   10,864 + 48 r        15,184
+ *     mus_strata_project     11,184   11,136 + 48 r        15,456
  *     mus_post                   72
  *     mus_post_all              128
- *     mus_team_split            TO BE MEASURED
- *     mus_team_draw             TO BE MEASURED
- *     mus_team_post             TO BE MEASURED
- *     mus_team_post_all         TO BE MEASURED
+ *     mus_team_split            224   176 + 48 r            4,496
+ *     mus_team_draw             176   128 + 48 r            4,448
+ *     mus_team_post              72
+ *     mus_team_post_all         128
  *     mus_tally_none            296
  *     mus_tally_add           1,752
  *     mus_attribute_size         80

@@ -82,8 +82,8 @@ module _ {J start : ℕ} {ledger before marks : List ℕ} {point : ℕ} (at : Wa
     onward : Onward J (rowEnd J ledger) point (at .fuel)
     onward = points-on J (rowEnd J ledger) point (at .fuel) (some-interval J point ledger ahead) ahead (at .enough)
 
-    pub walking-less : end - (point + J) < end - point
-    walking-less = omega (arith, some-interval J point ledger ahead)
+    pub walking-some : 0 < J
+    walking-some = some-interval J point ledger ahead
 
     module _ {line : ℕ} (stops : line ≡ stopAt J ledger point) where
       pub walking-inside : line < length marks

@@ -10,6 +10,8 @@ use results::StrataProjectResult;
 use results::TallyResult;
 use season::Tally;
 
+pub mod board; // board.rt: the blackboard method
+
 // An answer of figures alone.
 fn answer(refusal: u64, place: u64, figures: [u64; 5], count: usize) -> Answer {
     Answer {
@@ -82,21 +84,6 @@ pub fn project_lines(
     amounts: &mut [i64],
 ) -> Answer {
     of_project(results::steps::of_project(lines::project_lines(ledger, n, start, errors, amounts)))
-}
-
-// The draw and the projection by walking.
-pub fn board_draw(ledger: &[u64], n: u64, start: u64, marks: &mut [u8]) -> Answer {
-    let r = results::board::of_board_draw(blackboard::board_draw(ledger, n, start, marks));
-    answer(r.refusal, r.place, [r.drawn, 0, 0, 0, 0], 1)
-}
-
-pub fn board_project(ledger: &[u64], n: u64, start: u64, errors: &[i64]) -> Answer {
-    of_project(results::board::of_board_project(blackboard::board_project(
-        ledger,
-        n,
-        start,
-        errors,
-    )))
 }
 
 pub fn judge(level: u8, ledger: &[u64], n: u64, start: u64, errors: &[i64], te: u64) -> Answer {

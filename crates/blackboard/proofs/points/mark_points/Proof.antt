@@ -3,7 +3,7 @@
 use borrow.Author.Needs.{needs}
 use native.Mathlib.Omega.{arith}
 use Prim.Native.Nat.{_-_}
-use Rattle.blackboard.proofs.Walking.{Walking, walking-start, walking-inside, walking-most, walking-less, walking-on, walking-same, walking-end}
+use Rattle.blackboard.proofs.Walking.{Walking, walking-start, walking-inside, walking-most, walking-some, walking-on, walking-same, walking-end}
 use Rattle.blackboard.proofs.points.mark_points.Statement.{statement}
 use Rattle.blackboard.proofs.points.mark_points.Tie as tie
 
@@ -24,7 +24,7 @@ mark-points-spec =
     (λ c κs. search needs)
     (λ c. search walking-inside)
     (λ c. let at = c .before .before in omega (arith, c .before .loop-test .taken, at .before .row-end .ensures, walking-most (at .loop .inv), at .loop .inv .board .narrow))
-    (λ c. search walking-less)
+    (λ c. let at = c .before .before in omega (arith, c .before .loop-test .taken, walking-some (at .loop .inv) (at .before .row-end .ensures) (c .before .loop-test .taken)))
     (λ c. search walking-on)
     (λ c. search walking-same)
     (λ c. search walking-end))

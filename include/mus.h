@@ -25,6 +25,8 @@
  *     mus_draw                  176   128 + 48 r            4,448
  *     mus_project               616   224 + 48 r            4,544
  *     mus_project_lines         664   272 + 48 r            4,592
+ *     mus_board_draw            176   128 + 48 r            4,448
+ *     mus_board_project         504   272 + 48 r            4,592
  *     mus_judge               1,560   1,168 + 48 r          5,488
  *     mus_strata_plan         7,792   7,744 + 48 r         12,064
  *     mus_strata_draw         6,512   6,464 + 48 r         10,784

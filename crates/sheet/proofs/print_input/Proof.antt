@@ -12,6 +12,6 @@ print-input-spec =
     (λ c. search byte-there)
     (λ c. search byte-there)
     (λ c. search needs) (λ c κs. search needs) (λ c. search needs)
-    (λ c. search board-printed)
+    (λ c. let printed = c .before .before in let by = printed .before .before .before in board-printed _ (by .before .by-board .ensures) (by .if1 .taken) (printed .print-file .ensures))
     (λ c κs. search needs) (λ c. search needs)
-    (λ c. search whole-printed))
+    (λ c. let printed = c .before .before in let by = printed .before .before in whole-printed _ (by .before .by-board .ensures) (by .if1 .left) (printed .print-file2 .ensures)))

@@ -30,7 +30,7 @@ use Rattle.steps.specs.Steps.{Shown}
 use Rattle.sheet.specs.Lines.{itemText, itemsText, ledgerText}
 
 -- one line, as `walked_line` meets its error
-module _ (J v : ℕ) (e : ℤ) {mark size : ℕ} (fits : SFits w64 e) (told : size ≡ sizeOf (held e)) where
+module _ (J v : ℕ) (e : ℤ) (mark : ℕ) {size : ℕ} (fits : SFits w64 e) (told : size ≡ sizeOf (held e)) where
   pub size-fits : MarkFits J v (sizeOf e) mark → MarkFits J v size mark
   size-fits m = record { narrow = m .narrow; within = omega (arith, size-read e (fits .sfits) told, m .within); some = m .some }
 

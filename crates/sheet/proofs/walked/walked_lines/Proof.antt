@@ -27,6 +27,9 @@ walked-lines-spec =
     (λ c κs. search needs)
     (λ c. omega arith)
     (λ c. omega arith)
-    (λ c. search walked-more)
+    (λ c. let line = c .before .before .before in
+    let marked = line .before .before .before in
+    let inside = marked .before .before in
+    search (walked-more (inside .before .loop .inv) (inside .loop-test .taken) (marked .mark-where .ensures), line .walked-line .ensures, c .walk-on .ensures))
     (λ c. search needs)
     (λ c. search walked-end))

@@ -10,7 +10,8 @@ use lib.Seq.{getD-take, take-take}
 use Rattle.terms.specs.Numbers.{pick}
 use Rattle.workfile.proofs.Records.{drop-take}
 use Rattle.workfile.proofs.Longest.{first-decide}
-use Rattle.sheet.specs.Sheet.{textBy, contentText, sheetText, byBoard, fileOf, deskText}
+use Rattle.sheet.specs.Sheet.{textBy, contentText, sheetText, byBoard, deskText}
+use Rattle.sheet.proofs.Inputs.{file-is}
 
 -- a file by its first 45,664 bytes, and so by any more of them
 file-bytes : (file : List ℕ) → sheetText file ≡ sheetText (take 45664 file)
@@ -22,7 +23,9 @@ by-method input true = file-bytes (drop 1 input) ∙ ap sheetText (sym (drop-tak
 by-method input false = file-bytes input ∙ ap sheetText (sym (take-take 45664 45665 input (omega arith))) ∙ sym (file-bytes (take 45665 input))
 
 pub first-bytes : (input : List ℕ) → deskText input ≡ deskText (take 45665 input)
-unfolding deskText fileOf
+unfolding deskText
 first-bytes input =
-    by-method input (byBoard input)
+    ap sheetText (file-is input)
+    ∙ by-method input (byBoard input)
     ∙ ap (λ (x : ℕ). sheetText (pick (eqb x 0x42) (drop 1 (take 45665 input)) (take 45665 input))) (sym (getD-take 45665 input 0 0 (omega arith)))
+    ∙ sym (ap sheetText (file-is (take 45665 input)))

@@ -7,9 +7,15 @@ use mathlib.Core.List.{List, [], _∷_}
 use borrow.Author.Tests.{eqb-true}
 use lib.ListN.{length, getD, take, drop, length-drop}
 use lib.Seq.{take-all}
+use Rattle.terms.specs.Numbers.{pick}
 use Rattle.pen.specs.Page.{Wrote}
 use Rattle.sheet.specs.Sheet.{sheetText, byBoard, fileOf, deskText, longestText}
 use Rattle.sheet.proofs.Paging.{as-bounded}
+
+-- what follows the byte, or the whole input
+pub file-is : (input : List ℕ) → fileOf input ≡ pick (byBoard input) (drop 1 input) input
+unfolding fileOf
+file-is input = refl
 
 -- an input without bytes is no board's
 pub no-byte : (input : List ℕ) → length input ≡ 0 → false ≡ byBoard input
@@ -26,18 +32,18 @@ module _ (input : List ℕ) {told : Bool} (is : told ≡ byBoard input) where
   byte-there by = some-byte input (eqb-true (getD input 0 0) 0x42 (sym is ∙ by))
 
   pub after-byte : told ≡ true → deskText input ≡ sheetText (take (length input - 1) (drop 1 input))
-  unfolding deskText fileOf
+  unfolding deskText
   after-byte by =
       let b : byBoard input ≡ true = sym is ∙ by in
-      let file : fileOf input ≡ drop 1 input = rw b refl in
-      ap sheetText (file ∙ sym (take-all (length input - 1) (drop 1 input) (omega (arith, length-drop 1 input))))
+      let rest : pick (byBoard input) (drop 1 input) input ≡ drop 1 input = rw b refl in
+      ap sheetText (file-is input ∙ rest ∙ sym (take-all (length input - 1) (drop 1 input) (omega (arith, length-drop 1 input))))
 
   pub whole-file : told ≡ false → deskText input ≡ sheetText input
-  unfolding deskText fileOf
+  unfolding deskText
   whole-file by =
       let b : byBoard input ≡ false = sym is ∙ by in
-      let file : fileOf input ≡ input = rw b refl in
-      ap sheetText file
+      let whole : pick (byBoard input) (drop 1 input) input ≡ input = rw b refl in
+      ap sheetText (file-is input ∙ whole)
 
   module _ {o o′ : List ℕ} {a a′ : ℕ} where
     pub board-printed : told ≡ true → let file = take (length input - 1) (drop 1 input) in

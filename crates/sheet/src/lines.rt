@@ -1,5 +1,5 @@
 // The lines of the sheet, each written from the pen's place on.
-use crate::walked::walked_lines;
+use crate::walked::lines_by;
 use judge::Judgement;
 use judge::Verdict;
 use pen::Pen;
@@ -208,25 +208,6 @@ fn closing_text(pen: Pen, page: &mut [u8], judgement: Judgement) -> Pen
 {
     let projected = project_line(pen, page, judgement.projection);
     judge_line(projected, page, judgement)
-}
-
-// The drawn and full lines by the first method or by the blackboard's: the text is the same.
-fn lines_by(
-    pen: Pen,
-    page: &mut [u8],
-    board: bool,
-    ledger: &[u64],
-    errors: &[i64],
-    interval: u64,
-    start: Cent,
-) -> Pen
-    requires { ⌜ Shown 0 interval (now ledger) (now errors) × (start .0 ≤ interval) ⌝ }
-    ensures { λ r. ⌜ Wrote (now (page .entry)) (pen .at) (ledgerText 0 interval (start .0) (now (ledger .entry)) (now (errors .entry))) (now (page .exit)) (r .at) ⌝ }
-{
-    if board {
-        return walked_lines(pen, page, ledger, errors, interval, start);
-    }
-    ledger_lines(pen, page, Item(0), ledger, errors, interval, start)
 }
 
 // The whole sheet of what the steps have answered, by either method.

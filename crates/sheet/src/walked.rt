@@ -1,15 +1,19 @@
-// The drawn and full lines of the sheet by the blackboard method: each by its mark, while the walk goes on beside them.
+// The drawn and full lines of the sheet by the blackboard method: each by its mark, while the walk goes on beside them. And by either method.
 use crate::lines::item_line;
+use crate::lines::ledger_lines;
 use blackboard::Walker;
 use blackboard::points::count_off;
 use blackboard::sums::mark_where;
 use blackboard::sums::walk_on;
 use pen::Pen;
 use terms::Cent;
+use terms::Item;
+ghost use Prim.Native.Nat.{_≤_};
 ghost use Rattle.signed.specs.declared.Part.the-variants.{Size};
 ghost use Rattle.signed.specs.Errors.{sizeOf, isUnder};
 ghost use Rattle.signed.specs.Parts.{partOf};
 ghost use Rattle.pen.specs.Page.{Wrote};
+ghost use Rattle.steps.specs.Steps.{Shown};
 ghost use Rattle.boardjudge.specs.Marked.{markedLine, MarkFits, Walkable};
 ghost use Rattle.sheet.specs.Lines.{itemText, ledgerText};
 
@@ -32,7 +36,7 @@ fn walked_line(
 }
 
 // The drawn and full lines, in ledger order.
-pub fn walked_lines(
+fn walked_lines(
     pen: Pen,
     page: &mut [u8],
     ledger: &[u64],
@@ -56,4 +60,23 @@ pub fn walked_lines(
         item += 1;
     }
     at
+}
+
+// The drawn and full lines by the first method or by the blackboard's: the text is the same.
+pub fn lines_by(
+    pen: Pen,
+    page: &mut [u8],
+    board: bool,
+    ledger: &[u64],
+    errors: &[i64],
+    interval: u64,
+    start: Cent,
+) -> Pen
+    requires { ⌜ Shown 0 interval (now ledger) (now errors) × (start .0 ≤ interval) ⌝ }
+    ensures { λ r. ⌜ Wrote (now (page .entry)) (pen .at) (ledgerText 0 interval (start .0) (now (ledger .entry)) (now (errors .entry))) (now (page .exit)) (r .at) ⌝ }
+{
+    if board {
+        return walked_lines(pen, page, ledger, errors, interval, start);
+    }
+    ledger_lines(pen, page, Item(0), ledger, errors, interval, start)
 }

@@ -3,9 +3,9 @@
  * Every function is total: it takes any input and returns a struct by value. `refusal` is 0 where the call is accepted, and then
  * the figures are the answer. Otherwise `refusal` is a number of enum mus_refusal, `place` says where (a line, a byte, a count;
  * 0 where the refusal names none), every figure is 0 but those of a tally, which is handed back as it was, and every lent buffer keeps
- * its former content, but that a batch of findings (mus_post_all) leaves the pairs before the refused one posted. Where several refusals
- * apply, the first is given in this order: 27, 1, 22, 30, 2, 13; then 3 and 4 line by line; then 5 to 8, 23, 11; then 14 and 15 line
- * by line; then 16; then 28. Of a control test: 1, 25, 26. Of findings: 13; then 20, 14 and 15 pair by pair.
+ * its former content, but that a batch of findings (mus_post_all, mus_team_post_all) leaves the pairs before the refused one posted. Where
+ * several refusals apply, the first is given in this order: 24, 27, 1, 22, 30, 2, 13; then 3 and 4 line by line; then 5 to 8, 23, 11; then 14
+ * and 15 line by line; then 16; then 28. Of a control test: 1, 25, 26. Of findings: 24, 13; then 20, 14 and 15 pair by pair.
  *
  * Money and numbers of draws are 64-bit, money in whole cents. Lines are numbered from 0. An error has a sign: above 0 the line is
  * overstated, too much was claimed; below 0 it is understated, too little; 0 is no error. A list is a pointer and a number of entries;
@@ -28,9 +28,13 @@
  *     mus_judge               1,560   1,168 + 48 r          5,488
  *     mus_strata_plan         7,792   7,744 + 48 r         12,064
  *     mus_strata_draw         6,512   6,464 + 48 r         10,784
- *     mus_strata_project     10,912   10,864 + 48 r        15,184
+ *     mus_strata_project     11,184   11,136 + 48 r        15,456
  *     mus_post                   72
  *     mus_post_all              128
+ *     mus_team_split            224   176 + 48 r            4,496
+ *     mus_team_draw             176   128 + 48 r            4,448
+ *     mus_team_post              72
+ *     mus_team_post_all         128
  *     mus_tally_none            296
  *     mus_tally_add           1,752
  *     mus_attribute_size         80
@@ -95,6 +99,7 @@ enum mus_refusal {
     MUS_LINE_NOT_THERE = 20,        /* a line is not in the ledger; the pair */
     MUS_STRATA_OUT_OF_RANGE = 22,   /* there are no strata, or more than MUS_MOST_STRATA */
     MUS_TOO_FEW_DRAWS = 23,         /* there are fewer draws than strata with book value */
+    MUS_UNKNOWN_TEAM = 24,          /* the team is neither A nor B */
     MUS_UNKNOWN_TOLERANCE = 25,     /* the tolerance of a control test is none of 1, 3, 5, 7, 10 percent */
     MUS_TOO_MANY_EXCEPTIONS = 26,   /* a control test has more than 10 exceptions */
     MUS_TOO_MANY_JUDGEMENTS = 27,   /* the tally holds MUS_MOST_JUDGEMENTS already, refused ones included */
@@ -102,8 +107,11 @@ enum mus_refusal {
     MUS_COUNTS_DO_NOT_ADD = 30      /* the counts of the strata do not add to the ledger's lines */
 };
 
-/* What a mark says of its line. */
+/* What a mark says of its line; of two teams on one ledger, what a team's own two bits of it say. */
 enum mus_mark { MUS_NOT_DRAWN = 0, MUS_DRAWN = 1, MUS_FULL = 2 };
+
+/* Two teams on one ledger: A has bits 0 and 1 of each mark, B bits 2 and 3. */
+enum mus_team { MUS_TEAM_A = 0x41, MUS_TEAM_B = 0x42 };
 
 /* What a judgement says: above where the projected error exceeds TE, below only where the upper limit is less than TE, and otherwise
  * inconclusive; so a limit equal to TE is inconclusive. 0 is none of them: the call was refused. */
@@ -296,6 +304,22 @@ struct mus_post_result mus_post(const uint64_t *ledger, size_t ledger_length, co
  * caller may mend the pair and post the rest from there. Refusals 13 (for marks or errors, or where lines and found differ in length; nothing is
  * posted then); then of each pair in turn 20, 14, 15. */
 struct mus_post_result mus_post_all(const uint64_t *ledger, size_t ledger_length, const uint8_t *marks, size_t marks_length, int64_t *errors, size_t errors_length, const uint64_t *lines, size_t lines_length, const int64_t *found, size_t found_length);
+
+/* Two teams draw from one ledger, each for its own fund, and keep their marks in one table: team is one of enum mus_team. Each call is the plain one
+ * on the acting team's own bits of the marks, as if marks held these alone: a mark from 0 to 3, mark & 3 for A and mark >> 2 & 3 for B. Its answer
+ * and what it leaves follow from the ledger, the numbers and the own bits; the other team's bits and bits 4 to 7 are neither read nor
+ * changed. So the teams' calls may be made in either order, one after the other: a table that is lent to one call is not lent to another at the same
+ * time. Projection and judgement take no marks: each team hands its own draws, start and errors to mus_project and mus_judge.
+ *
+ * A team's split, and its draw: the own bits of each mark become what mus_split or mus_draw would write. Refusals 24, then those of
+ * the plain call; marks then stays as it was, in every bit. */
+struct mus_split_result mus_team_split(uint8_t team, const uint64_t *ledger, size_t ledger_length, uint64_t n, uint8_t *marks, size_t marks_length);
+struct mus_draw_result mus_team_draw(uint8_t team, const uint64_t *ledger, size_t ledger_length, uint64_t n, uint64_t start, uint8_t *marks, size_t marks_length);
+
+/* One finding of a team, and a batch of them, by its own bits: own bits of 3 mean not drawn, as 0 does. errors is the team's own. Refusals 24, which
+ * posts nothing, then those of the plain call. */
+struct mus_post_result mus_team_post(uint8_t team, const uint64_t *ledger, size_t ledger_length, const uint8_t *marks, size_t marks_length, int64_t *errors, size_t errors_length, uint64_t line, int64_t error);
+struct mus_post_result mus_team_post_all(uint8_t team, const uint64_t *ledger, size_t ledger_length, const uint8_t *marks, size_t marks_length, int64_t *errors, size_t errors_length, const uint64_t *lines, size_t lines_length, const int64_t *found, size_t found_length);
 
 /* The tally before the first judgement. */
 struct mus_tally mus_tally_none(void);

@@ -472,6 +472,7 @@ int main(int argc, char **argv)
     season_cases();
     attribute_cases();
     findings_cases();
+    team_cases();
 #ifndef WITHOUT_SHEET
     sheet_cases();
 #endif

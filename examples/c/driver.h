@@ -23,6 +23,9 @@ void attribute_cases(void);
 /* Findings by the batch: worked batches, each refusal, and what a call leaves. */
 void findings_cases(void);
 
+/* Two teams on one ledger: both on one table in either order, every byte as a team and as a mark, each refusal, and what a refused call leaves. */
+void team_cases(void);
+
 /* Stored cases of these operations, for run_vectors. */
 void strata_plan_case(void);
 void strata_draw_case(void);
@@ -30,6 +33,10 @@ void strata_project_case(void);
 void tally_case(void);
 void post_case(void);
 void post_all_case(void);
+void team_split_case(void);
+void team_draw_case(void);
+void team_post_case(void);
+void team_post_all_case(void);
 
 /* Runs each case of one file through the C interface and compares its line with the other file's: docs/VECTORS.md. */
 void run_vectors(const char *cases, const char *answers);

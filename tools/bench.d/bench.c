@@ -96,6 +96,15 @@ static void set_findings(void)
 static void call_post(void) { kept = mus_post(ledger, lines, marks, lines, errors, lines, 7, -7).posted; }
 static void call_post_all(void) { kept = mus_post_all(ledger, lines, marks, lines, errors, lines, posted_lines, PAIRS, found, PAIRS).posted; }
 
+/* Team B, on marks with a draw of team A's: the split, the draw, and the same batch. */
+static void set_teams(void) { plain_ledger(); memset(marks, MUS_DRAWN, lines); }
+static void set_teams_deep(void) { set_deep(); memset(marks, MUS_DRAWN, lines); }
+static void set_team_findings(void) { set_findings(); memset(marks, MUS_FULL | MUS_DRAWN << 2, lines); }
+static void call_team_split(void) { kept = mus_team_split(MUS_TEAM_B, ledger, lines, draws, marks, lines).interval; }
+static void call_team_draw(void) { kept = mus_team_draw(MUS_TEAM_B, ledger, lines, draws, start, marks, lines).drawn; }
+static void call_team_post(void) { kept = mus_team_post(MUS_TEAM_B, ledger, lines, marks, lines, errors, lines, 7, -7).posted; }
+static void call_team_post_all(void) { kept = mus_team_post_all(MUS_TEAM_B, ledger, lines, marks, lines, errors, lines, posted_lines, PAIRS, found, PAIRS).posted; }
+
 /* The last of either table. */
 static void set_attributes(void) { }
 static void call_attribute_size(void) { kept = mus_attribute_size(99, 10).items; }
@@ -143,6 +152,12 @@ static const struct row {
     {"strata-project-widest", set_strata_widest, call_strata_project},
     {"post", set_findings, call_post},
     {"post-all", set_findings, call_post_all},
+    {"team-split", set_teams, call_team_split},
+    {"team-split-deep", set_teams_deep, call_team_split},
+    {"team-draw", set_teams, call_team_draw},
+    {"team-draw-deep", set_teams_deep, call_team_draw},
+    {"team-post", set_team_findings, call_team_post},
+    {"team-post-all", set_team_findings, call_team_post_all},
     {"tally-none", set_season, call_tally_none},
     {"tally-add", set_season, call_tally_add},
     {"attribute-size", set_attributes, call_attribute_size},

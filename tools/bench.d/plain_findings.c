@@ -4,7 +4,7 @@
 /* Why a pair is refused, or 0; else it is posted. */
 static uint64_t post_pair(const uint64_t *ledger, size_t lines, const uint8_t *marks, int64_t *errors, uint64_t line, int64_t error)
 {
-    uint64_t size = error < 0 ? 0 - (uint64_t) error : (uint64_t) error;
+    uint64_t size = size_of(error);
     if (line >= lines) return 20;
     if (size > ledger[line]) return 14;
     if (error != 0 && marks[line] != MUS_DRAWN && marks[line] != MUS_FULL) return 15;

@@ -1,51 +1,8 @@
-/* The passes over a ledger, or over a part of one: judging, the split, the marks, the walk of the projection. */
+/* The passes over a ledger, or over a part of one, after its split: the marks, the walk of the projection. */
 #ifndef PLAIN_LEDGER_H
 #define PLAIN_LEDGER_H
 
-#include "plain.h"
-
-struct refused { uint64_t number, place; };
-
-static struct refused judge_ledger(const uint64_t *ledger, size_t lines, size_t beside, uint64_t *total)
-{
-    struct refused why = {0, 0};
-    uint64_t sum = 0;
-    if (lines > MUS_MOST_LINES) { why.number = 2; return why; }
-    if (beside != lines) { why.number = 13; return why; }
-    for (size_t i = 0; i < lines; i++) {
-        uint64_t value = ledger[i];
-        if (value > MUS_MOST_VALUE) { why.number = 3; why.place = i; return why; }
-        sum += value;
-        if (sum > MUS_MOST_TOTAL) { why.number = 4; why.place = i; return why; }
-    }
-    if (sum == 0) why.number = 5;
-    *total = sum;
-    return why;
-}
-
-struct figures { uint64_t interval, draws_left, sampled_total; };
-
-static struct refused split_total(const uint64_t *ledger, size_t lines, uint64_t n, uint64_t total, struct figures *figures)
-{
-    struct refused why = {0, 0};
-    uint64_t draws = n, rest = total, interval;
-    if (n == 0) { why.number = 8; return why; }
-    for (;;) {
-        uint64_t full = 0, full_total = 0;
-        interval = rest / draws;
-        for (size_t i = 0; i < lines; i++) {
-            uint64_t value = ledger[i];
-            if (value > interval) { full++; full_total += value; }
-        }
-        if (n - full == draws) break;
-        draws = n - full;
-        rest = total - full_total;
-    }
-    figures->interval = interval;
-    figures->draws_left = draws;
-    figures->sampled_total = rest;
-    return why;
-}
+#include "plain_split.h"
 
 /* Writes the marks of a draw; how many lines are drawn. Not inlined: the loop is then an instruction a line shorter. */
 static __attribute__((noinline)) uint64_t mark_lines(const uint64_t *ledger, size_t lines, uint64_t interval, uint64_t start, uint8_t *marks)
@@ -77,12 +34,6 @@ static inline uint64_t amount_of(uint64_t error, uint64_t interval, uint64_t val
 {
     if (error == 0) return 0;
     return interval >> 32 == 0 ? (error * interval + (value - 1)) / value : wide_amount(error, interval, value);
-}
-
-/* How large an error is, whatever its sign: 2^63 for the least. */
-static inline uint64_t size_of(int64_t error)
-{
-    return error < 0 ? 0 - (uint64_t) error : (uint64_t) error;
 }
 
 /* Checks and adds the lines, overstatements and understatements apart; keeps the amounts of overstated drawn lines, at most so many. */

@@ -1,6 +1,7 @@
 // Every operation, called: its answer in the one shape that the test programs print.
 use answers::Answer;
 use answers::Rest;
+use results::DrawResult;
 use results::PostResult;
 use results::ProjectResult;
 use results::SplitResult;
@@ -51,9 +52,12 @@ pub fn start(interval: u64, words: &[u64]) -> Answer {
     answer(r.refusal, r.place, [r.start, r.words, 0, 0, 0], 2)
 }
 
-pub fn draw(ledger: &[u64], n: u64, start: u64, marks: &mut [u8]) -> Answer {
-    let r = results::steps::of_draw(draw::draw(ledger, n, start, marks));
+fn of_draw(r: DrawResult) -> Answer {
     answer(r.refusal, r.place, [r.drawn, 0, 0, 0, 0], 1)
+}
+
+pub fn draw(ledger: &[u64], n: u64, start: u64, marks: &mut [u8]) -> Answer {
+    of_draw(results::steps::of_draw(draw::draw(ledger, n, start, marks)))
 }
 
 fn of_project(r: ProjectResult) -> Answer {
@@ -179,6 +183,39 @@ pub fn post_all(
     found: &[i64],
 ) -> Answer {
     of_post(results::posting::of_post(findings::post_all(ledger, marks, errors, lines, found)))
+}
+
+// Two teams on one ledger: the same by the acting team's own bits.
+pub fn team_split(team: u8, ledger: &[u64], n: u64, marks: &mut [u8]) -> Answer {
+    of_split(results::steps::of_split(teams::team_split(team, ledger, n, marks)))
+}
+
+pub fn team_draw(team: u8, ledger: &[u64], n: u64, start: u64, marks: &mut [u8]) -> Answer {
+    of_draw(results::steps::of_draw(teams::team_draw(team, ledger, n, start, marks)))
+}
+
+pub fn team_post(
+    team: u8,
+    ledger: &[u64],
+    marks: &[u8],
+    errors: &mut [i64],
+    line: u64,
+    error: i64,
+) -> Answer {
+    let posted = teams::team_post(team, ledger, marks, errors, line, error);
+    of_post(results::posting::of_post(posted))
+}
+
+pub fn team_post_all(
+    team: u8,
+    ledger: &[u64],
+    marks: &[u8],
+    errors: &mut [i64],
+    lines: &[u64],
+    found: &[i64],
+) -> Answer {
+    let posted = teams::team_post_all(team, ledger, marks, errors, lines, found);
+    of_post(results::posting::of_post(posted))
 }
 
 pub fn read(file: &[u8], words: &mut [u64], values: &mut [u64], errors: &mut [i64]) -> Answer {

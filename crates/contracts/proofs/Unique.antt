@@ -11,12 +11,8 @@ use Rattle.ledger.specs.declared.LedgerAnswer.{LedgerAnswer}
 use Rattle.ledger.specs.declared.LedgerAnswer.the-variants as ledger
 use Rattle.size.specs.declared.SizeAnswer.{SizeAnswer}
 use Rattle.size.specs.declared.SizeAnswer.the-variants as size
-use Rattle.split.specs.declared.SplitAnswer.{SplitAnswer}
-use Rattle.split.specs.declared.SplitAnswer.the-variants as split
 use Rattle.start.specs.declared.StartAnswer.{StartAnswer}
 use Rattle.start.specs.declared.StartAnswer.the-variants as start
-use Rattle.draw.specs.declared.DrawAnswer.{DrawAnswer}
-use Rattle.draw.specs.declared.DrawAnswer.the-variants as draw
 use Rattle.project.specs.declared.Projection.{Projection}
 use Rattle.project.specs.declared.ProjectAnswer.{ProjectAnswer}
 use Rattle.project.specs.declared.ProjectAnswer.the-variants as project
@@ -30,10 +26,11 @@ use Rattle.stratified.specs.declared.projection.ProjectionRow.{ProjectionRow}
 use Rattle.factors.specs.Levels.{levelSays}
 use Rattle.ledger.specs.Ledger.{ledgerSays}
 use Rattle.size.specs.Size.{sizeSays, SizePromise}
-use Rattle.split.specs.declared.Figures.{Figures}
-use Rattle.split.specs.Split.{splitSays, SplitPromise}
+use Rattle.split.specs.Split.{SplitPromise}
+use Rattle.split.proofs.Once.{split-answer, split-once}
 use Rattle.start.specs.Start.{startSays, StartPromise}
-use Rattle.draw.specs.Draw.{drawSays, DrawPromise}
+use Rattle.draw.specs.Draw.{DrawPromise}
+use Rattle.draw.proofs.Once.{draw-answer, draw-once}
 use Rattle.project.specs.Project.{projectSays, ProjectPromise}
 use Rattle.lines.specs.Each.{LinesPromise}
 use Rattle.judge.specs.Judge.{judgeSays, JudgePromise}
@@ -57,6 +54,7 @@ use Rattle.attributes.proofs.Answers.{items-once, bound-once}
 use Rattle.findings.specs.Findings.{PostPromise}
 use Rattle.findings.specs.Batch.{PostAllPromise}
 use Rattle.findings.proofs.Answers.{post-once, post-all-once}
+use Rattle.teams.proofs.Laws.{team-split-once, team-draw-once, team-post-once, team-post-all-once}
 use Rattle.results.specs.Seen.{Sees}
 use Rattle.contracts.specs.Unique.{One, OneWith, Three, NoFreedom}
 
@@ -73,17 +71,9 @@ size-made : (r : SizeAnswer) → Made size.Draws size.Refused r
 size-made (size.Draws a) = good a
 size-made (size.Refused why) = bad why
 
-split-made : (r : SplitAnswer) → Made split.Split split.Refused r
-split-made (split.Split a) = good a
-split-made (split.Refused why) = bad why
-
 start-made : (r : StartAnswer) → Made start.Started start.Refused r
 start-made (start.Started a) = good a
 start-made (start.Refused why) = bad why
-
-draw-made : (r : DrawAnswer) → Made draw.Drawn draw.Refused r
-draw-made (draw.Drawn a) = good a
-draw-made (draw.Refused why) = bad why
 
 project-made : (r : ProjectAnswer) → Made project.Projected project.Refused r
 project-made (project.Projected a) = good a
@@ -97,17 +87,9 @@ strata-made : (r : StrataAnswer) → Made strata.Strata strata.Refused r
 strata-made (strata.Strata a) = good a
 strata-made (strata.Refused why) = bad why
 
--- an answer of the split is what it says
-split-answer : {o : Outcome Figures} (r s : SplitAnswer) → splitSays r ≡ o → splitSays s ≡ o → r ≡ s
-split-answer = one-answer splitSays split.Split split.Refused (λ a. refl) (λ why. refl) split-made
-
--- and of the projection
+-- an answer of the projection is what it says
 project-answer : {o : Outcome Projection} (r s : ProjectAnswer) → projectSays r ≡ o → projectSays s ≡ o → r ≡ s
 project-answer = one-answer projectSays project.Projected project.Refused (λ a. refl) (λ why. refl) project-made
-
--- of the draw, of the ledger or by strata
-draw-answer : {o : Outcome ℕ} (r s : DrawAnswer) → drawSays r ≡ o → drawSays s ≡ o → r ≡ s
-draw-answer = one-answer drawSays draw.Drawn draw.Refused (λ a. refl) (λ why. refl) draw-made
 
 -- and of the plan and the projection by strata
 strata-answer : {o : Outcome ℕ} (r s : StrataAnswer) → strataSays r ≡ o → strataSays s ≡ o → r ≡ s
@@ -117,14 +99,14 @@ strata-answer = one-answer strataSays strata.Strata strata.Refused (λ a. refl) 
 size-once : (percent total te ae : ℕ) → One (SizePromise percent total te ae)
 size-once _ _ _ _ r s p q = one-answer sizeSays size.Draws size.Refused (λ a. refl) (λ why. refl) size-made r s (p .answer) (q .answer)
 
-split-once : (ledger : List ℕ) (n : ℕ) (marks : List ℕ) → OneWith (SplitPromise ledger n marks)
-split-once _ _ _ r s _ _ p q = (split-answer r s (p .answer) (q .answer), p .marks-left ∙ sym (q .marks-left))
+splits-once : (ledger : List ℕ) (n : ℕ) (marks : List ℕ) → OneWith (SplitPromise ledger n marks)
+splits-once _ _ _ _ _ _ _ p q = split-once p q
 
 start-once : (J : ℕ) (words : List ℕ) → One (StartPromise J words)
 start-once _ _ r s p q = one-answer startSays start.Started start.Refused (λ a. refl) (λ why. refl) start-made r s (p .answer) (q .answer)
 
-draw-once : (ledger : List ℕ) (n start : ℕ) (marks : List ℕ) → OneWith (DrawPromise ledger n start marks)
-draw-once _ _ _ _ r s _ _ p q = (draw-answer r s (p .answer) (q .answer), p .marks-left ∙ sym (q .marks-left))
+draws-once : (ledger : List ℕ) (n start : ℕ) (marks : List ℕ) → OneWith (DrawPromise ledger n start marks)
+draws-once _ _ _ _ _ _ _ _ p q = draw-once p q
 
 project-once : (ledger : List ℕ) (n start : ℕ) (errors : List ℤ) → One (ProjectPromise ledger n start errors)
 project-once _ _ _ _ r s p q = project-answer r s (p .answer) (q .answer)
@@ -195,11 +177,11 @@ no-freedom =
       level = λ _ r s p q. one-answer levelSays level.Known level.Refused (λ a. refl) (λ why. refl) level-made r s (p .answer) (q .answer);
       ledger = λ _ _ r s p q. one-answer ledgerSays ledger.Total ledger.Refused (λ a. refl) (λ why. refl) ledger-made r s (p .answer) (q .answer);
       size = size-once;
-      split = split-once;
+      split = splits-once;
       figures = λ _ _ _ r s p q. split-answer r s (p .answer) (q .answer);
       figures-for = λ _ _ _ _ r s p q. split-answer r s (p .answer) (q .answer);
       start = start-once;
-      draw = draw-once;
+      draw = draws-once;
       project = project-once;
       project-lines = lines-once;
       judge = judge-once;
@@ -219,6 +201,10 @@ no-freedom =
       answer-line = λ _ _ _ _ _ _ p q. (p .answer ∙ sym (q .answer), p .page-left ∙ sym (q .page-left));
       post = posts-once;
       post-all = batches-once;
+      team-split = λ _ _ _ _ _ _ _ _ p q. team-split-once p q;
+      team-draw = λ _ _ _ _ _ _ _ _ _ p q. team-draw-once p q;
+      team-post = λ _ _ marks _ _ _ _ _ _ _ p q. team-post-once marks p q;
+      team-post-all = λ _ _ marks _ _ _ _ _ _ _ p q. team-post-all-once marks p q;
       read = reads-once;
       write = writes-once;
       write-then-read = written-then-read-once;
@@ -231,9 +217,9 @@ no-freedom =
       starts = λ _ _. starts-once _;
       reply = λ _ _ _ _ _ _ p q. reply-once p q;
       mus-size = λ percent total te ae. sees (size-once percent total te ae);
-      mus-split = λ ledger n marks. sees-with (split-once ledger n marks);
+      mus-split = λ ledger n marks. sees-with (splits-once ledger n marks);
       mus-start = λ J words. sees (start-once J words);
-      mus-draw = λ ledger n start marks. sees-with (draw-once ledger n start marks);
+      mus-draw = λ ledger n start marks. sees-with (draws-once ledger n start marks);
       mus-project = λ ledger n start errors. sees (project-once ledger n start errors);
       mus-project-lines = λ ledger n start errors amounts. sees-with (lines-once ledger n start errors amounts);
       mus-judge = λ percent ledger n start errors te. sees (judge-once percent ledger n start errors te);
@@ -246,6 +232,10 @@ no-freedom =
       mus-attribute-bound = λ _ _ _. sees (λ _ _ p q. bound-once p q);
       mus-post = λ ledger marks errors line error. sees-with (posts-once ledger marks errors line error);
       mus-post-all = λ ledger marks errors lines found. sees-with (batches-once ledger marks errors lines found);
+      mus-team-split = λ _ _ _ _. sees-with (λ _ _ _ _ p q. team-split-once p q);
+      mus-team-draw = λ _ _ _ _ _. sees-with (λ _ _ _ _ p q. team-draw-once p q);
+      mus-team-post = λ _ _ marks _ _ _. sees-with (λ _ _ _ _ p q. team-post-once marks p q);
+      mus-team-post-all = λ _ _ marks _ _ _. sees-with (λ _ _ _ _ p q. team-post-all-once marks p q);
       mus-read = λ file words values errors. sees-with (reads-once file words values errors);
       mus-write = λ plan words values errors file. sees-with (writes-once plan words values errors file);
       mus-sheet = λ file page. sees-with (sheets-once file page);

@@ -18,6 +18,7 @@ use Rattle.project.specs.Project.{projectSays, ProjectPromise}
 use Rattle.lines.specs.Each.{LinesPromise}
 use Rattle.findings.specs.Findings.{postSays, PostPromise}
 use Rattle.findings.specs.Batch.{PostAllPromise}
+use Rattle.teams.specs.Teams.{TeamSplitPromise, TeamDrawPromise, TeamPostPromise, TeamPostAllPromise}
 use Rattle.judge.specs.Judge.{judgeSays, JudgePromise}
 use Rattle.judge.specs.declared.JudgeAnswer.{JudgeAnswer}
 use Rattle.season.specs.declared.{Entry.Entry, Tally.Tally}
@@ -98,6 +99,11 @@ pub record NoFreedom : Type 0 where
   -- findings, singly and by the batch
   pub post : (ledger marks : List ℕ) (errors : List ℤ) (line : ℕ) (error : ℤ) → OneWith (PostPromise ledger marks errors line error)
   pub post-all : (ledger marks : List ℕ) (errors : List ℤ) (lines : List ℕ) (found : List ℤ) → OneWith (PostAllPromise ledger marks errors lines found)
+  -- two teams on one ledger, and any byte for the team
+  pub team-split : (team : ℕ) (ledger : List ℕ) (n : ℕ) (marks : List ℕ) → OneWith (TeamSplitPromise team ledger n marks)
+  pub team-draw : (team : ℕ) (ledger : List ℕ) (n start : ℕ) (marks : List ℕ) → OneWith (TeamDrawPromise team ledger n start marks)
+  pub team-post : (team : ℕ) (ledger marks : List ℕ) (errors : List ℤ) (line : ℕ) (error : ℤ) → OneWith (TeamPostPromise team ledger marks errors line error)
+  pub team-post-all : (team : ℕ) (ledger marks : List ℕ) (errors : List ℤ) (lines : List ℕ) (found : List ℤ) → OneWith (TeamPostAllPromise team ledger marks errors lines found)
   -- the working file, its sheet, and the text
   pub read : (file words values : List ℕ) (errors : List ℤ) → OneWith (λ r (b : Three). ReadPromise file words values errors r (b .0) (b .1) (b .2))
   pub write : (plan : Plan) (words values : List ℕ) (errors : List ℤ) (file : List ℕ) → OneWith (WritePromise plan words values errors file)
@@ -135,6 +141,14 @@ pub record NoFreedom : Type 0 where
       → OneWith (λ r b. Sees postSeen postSays (λ a. PostPromise ledger marks errors line error a b) r)
   pub mus-post-all : (ledger marks : List ℕ) (errors : List ℤ) (lines : List ℕ) (found : List ℤ)
       → OneWith (λ r b. Sees postSeen postSays (λ a. PostAllPromise ledger marks errors lines found a b) r)
+  pub mus-team-split : (team : ℕ) (ledger : List ℕ) (n : ℕ) (marks : List ℕ)
+      → OneWith (λ r b. Sees splitSeen splitSays (λ a. TeamSplitPromise team ledger n marks a b) r)
+  pub mus-team-draw : (team : ℕ) (ledger : List ℕ) (n start : ℕ) (marks : List ℕ)
+      → OneWith (λ r b. Sees drawSeen drawSays (λ a. TeamDrawPromise team ledger n start marks a b) r)
+  pub mus-team-post : (team : ℕ) (ledger marks : List ℕ) (errors : List ℤ) (line : ℕ) (error : ℤ)
+      → OneWith (λ r b. Sees postSeen postSays (λ a. TeamPostPromise team ledger marks errors line error a b) r)
+  pub mus-team-post-all : (team : ℕ) (ledger marks : List ℕ) (errors : List ℤ) (lines : List ℕ) (found : List ℤ)
+      → OneWith (λ r b. Sees postSeen postSays (λ a. TeamPostAllPromise team ledger marks errors lines found a b) r)
   pub mus-read : (file words values : List ℕ) (errors : List ℤ)
       → OneWith (λ r (b : Three). Sees readSeen readSays (λ a. ReadPromise file words values errors a (b .0) (b .1) (b .2)) r)
   pub mus-write : (plan : Plan) (words values : List ℕ) (errors : List ℤ) (file : List ℕ)

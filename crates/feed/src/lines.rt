@@ -17,6 +17,16 @@ fn put_step(pen: Pen, page: &mut [u8], operation: u8) -> Pen {
     }
 }
 
+// The name of an operation by a team's own bits.
+fn put_by_team(pen: Pen, page: &mut [u8], operation: u8) -> Pen {
+    match operation {
+        18 => pen.text(page, b" teamsplit"),
+        19 => pen.text(page, b" teamdraw"),
+        20 => pen.text(page, b" teampost"),
+        _ => pen.text(page, b" teampostall"),
+    }
+}
+
 // The name of an operation.
 fn put_name(pen: Pen, page: &mut [u8], operation: u8) -> Pen {
     match operation {
@@ -32,6 +42,7 @@ fn put_name(pen: Pen, page: &mut [u8], operation: u8) -> Pen {
         15 => pen.text(page, b" attributebound"),
         16 => pen.text(page, b" post"),
         17 => pen.text(page, b" postall"),
+        18..=21 => put_by_team(pen, page, operation),
         _ => pen.text(page, b" is of no operation"),
     }
 }
@@ -77,12 +88,12 @@ fn put_by_strata(pen: Pen, page: &mut [u8], operation: u8, d: Digests) -> Pen {
 fn put_digests(pen: Pen, page: &mut [u8], operation: u8, d: Digests) -> Pen {
     match operation {
         1 | 14 | 15 => pen,
-        2 | 4 => put_lent(pen, page, &[d.ledger, d.bytes]),
+        2 | 4 | 18 | 19 => put_lent(pen, page, &[d.ledger, d.bytes]),
         3 => put_lent(pen, page, &[d.words]),
         5 | 6 => put_lent(pen, page, &[d.ledger, d.errors]),
         7 => put_lent(pen, page, &[d.bytes, d.words, d.ledger, d.errors]),
         9 => put_lent(pen, page, &[d.ledger, d.errors, d.words]),
-        16 | 17 => put_lent(pen, page, &[d.ledger, d.errors, d.words, d.bytes]),
+        16 | 17 | 20 | 21 => put_lent(pen, page, &[d.ledger, d.errors, d.words, d.bytes]),
         10..=12 => put_by_strata(pen, page, operation, d),
         13 => {
             let told = put_rows(pen, page, d.rows);

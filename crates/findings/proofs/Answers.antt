@@ -22,16 +22,17 @@ post-made : (r : PostAnswer) → Made Posted Refused r
 post-made (Posted pairs) = good pairs
 post-made (Refused why) = bad why
 
-one-post : {o : Outcome ℕ} (r s : PostAnswer) → postSays r ≡ o → postSays s ≡ o → r ≡ s
-one-post = one-answer postSays Posted Refused (λ a. refl) (λ why. refl) post-made
+-- an answer is what it says
+pub post-answer : {o : Outcome ℕ} (r s : PostAnswer) → postSays r ≡ o → postSays s ≡ o → r ≡ s
+post-answer = one-answer postSays Posted Refused (λ a. refl) (λ why. refl) post-made
 
 pub post-once : {ledger marks : List ℕ} {errors : List ℤ} {line : ℕ} {error : ℤ} {r s : PostAnswer} {b c : List ℤ} →
     PostPromise ledger marks errors line error r b → PostPromise ledger marks errors line error s c → (r ≡ s) × (b ≡ c)
-post-once {r = r} {s = s} p q = (one-post r s (p .answer) (q .answer), p .errors-left ∙ sym (q .errors-left))
+post-once {r = r} {s = s} p q = (post-answer r s (p .answer) (q .answer), p .errors-left ∙ sym (q .errors-left))
 
 pub post-all-once : {ledger marks : List ℕ} {errors : List ℤ} {lines : List ℕ} {found : List ℤ} {r s : PostAnswer} {b c : List ℤ} →
     PostAllPromise ledger marks errors lines found r b → PostAllPromise ledger marks errors lines found s c → (r ≡ s) × (b ≡ c)
-post-all-once {r = r} {s = s} p q = (one-post r s (p .answer) (q .answer), p .errors-left ∙ sym (q .errors-left))
+post-all-once {r = r} {s = s} p q = (post-answer r s (p .answer) (q .answer), p .errors-left ∙ sym (q .errors-left))
 
 -- the refusals that a pair gives, and that posting gives
 abbrev pub pairNumbers : List ℕ

@@ -19,11 +19,14 @@ use Rattle.terms.specs.Numbers.{pick}
 use Rattle.terms.proofs.Outcomes.{never}
 use Rattle.terms.proofs.Tests.{by-test}
 use Rattle.signed.proofs.Signs.{held, kept}
+use Rattle.bits.specs.declared.Bits.the-variants.{All}
+use Rattle.bits.specs.Own.{bitsOf}
+use Rattle.bits.proofs.Lists.{bits-all}
 use Rattle.findings.specs.declared.PostAnswer.{PostAnswer}
 use Rattle.findings.specs.declared.PostAnswer.the-variants.{Posted, Refused}
 use Rattle.findings.specs.Findings.{postSays, equallyLong, lineOf, postOf}
 use Rattle.findings.specs.Batch.{Pair, Batch, pairsOf, placedAt, postedThen, postedFrom, postAllOf, PairPromise, Postable, PairsPromise, PostAllPromise}
-use Rattle.findings.proofs.Rules.{long-told, same-long}
+use Rattle.findings.proofs.Rules.{long-counted, long-told, same-long}
 use Rattle.findings.proofs.Posting.{posting}
 
 -- clause by clause
@@ -131,7 +134,7 @@ module _ {ledger marks : List ℕ} {errors₀ : List ℤ} {lines : List ℕ} {fo
       sym (ap (postedFrom ledger marks position errors) (pairs-end position lines found h) ∙ posted-none ledger marks position errors) ∙ at .whole in
       record { answer = ap (λ (b : Batch). b .says) e; errors-left = ap (λ (b : Batch). b .errors) e }
 
--- as `post_all` meets them
+-- as `post_all_by` meets them
 module _ (ledger marks : List ℕ) (errors : List ℤ) (lines : List ℕ) (found : List ℤ) where
   -- where the lengths agree it is the pairs, posted from the first on
   pub all-from : Postable ledger marks errors lines found → postAllOf ledger marks errors lines found ≡ postedFrom ledger marks 0 errors (pairsOf lines found)
@@ -153,20 +156,25 @@ module _ (ledger marks : List ℕ) (errors : List ℤ) (lines : List ℕ) (found
       let same = sym (all-none e) in
       record { answer = ap (λ (b : Batch). b .says) same; errors-left = ap (λ (b : Batch). b .errors) same }
 
-  pub all-lengths : {b : Bool} → b ≡ equallyLong (length ledger) (length marks) (length errors) → not b ≡ true → PostAllPromise ledger marks errors lines found (Refused LengthsDiffer) errors
-  all-lengths is t = all-differ (simp (sym is ∙ not-true _ t))
+  pub all-lengths : {many : ℕ} → length marks ≡ many → {b : Bool} → b ≡ equallyLong (length ledger) many (length errors) → not b ≡ true →
+      PostAllPromise ledger marks errors lines found (Refused LengthsDiffer) errors
+  all-lengths counted is t = all-differ (simp (sym (long-counted _ _ _ counted is) ∙ not-true _ t))
 
-  module _ {b : Bool} (is : b ≡ equallyLong (length ledger) (length marks) (length errors)) (t : not b ≡ false) where
+  module _ {many : ℕ} (counted : length marks ≡ many) {b : Bool} (is : b ≡ equallyLong (length ledger) many (length errors)) (t : not b ≡ false) where
     pub all-lists : (length found ≡ length lines → ⊥) → PostAllPromise ledger marks errors lines found (Refused LengthsDiffer) errors
-    all-lists e = all-differ (simp (sym is ∙ not-false _ t, ne-eqb _ _ e))
+    all-lists e = all-differ (simp (sym (long-counted _ _ _ counted is) ∙ not-false _ t, ne-eqb _ _ e))
 
     module _ (same : length found ≡ length lines) where
       pub all-postable : Postable ledger marks errors lines found
       all-postable =
-          let both = long-told _ _ _ is t in
+          let both = long-told _ _ _ counted is t in
           record { marks-same = both .0; errors-same = both .1; found-same = same }
 
       pub all-posted : {r : PostAnswer} {errors′ : List ℤ} → PairsPromise ledger marks errors lines found r errors′ → PostAllPromise ledger marks errors lines found r errors′
       all-posted p =
           let e = all-from all-postable in
           record { answer = p .answer ∙ sym (ap (λ (x : Batch). x .says) e); errors-left = p .errors-left ∙ sym (ap (λ (x : Batch). x .errors) e) }
+
+  -- as `post_all` meets it: all eight bits are the marks
+  pub all-plain : {r : PostAnswer} {errors′ : List ℤ} → PostAllPromise ledger (bitsOf All marks) errors lines found r errors′ → PostAllPromise ledger marks errors lines found r errors′
+  all-plain {r} {errors′} = subst (λ (own : List ℕ). PostAllPromise ledger own errors lines found r errors′) (bits-all marks)

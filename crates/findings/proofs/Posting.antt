@@ -15,13 +15,16 @@ use Rattle.terms.specs.Numbers.{pick}
 use Rattle.terms.proofs.Outcomes.{never}
 use Rattle.terms.proofs.Tests.{by-test}
 use Rattle.signed.proofs.Signs.{held, kept}
+use Rattle.bits.specs.declared.Bits.the-variants.{All}
+use Rattle.bits.specs.Own.{bitsOf}
+use Rattle.bits.proofs.Lists.{bits-all}
 use Rattle.findings.specs.declared.PairAnswer.{PairAnswer}
 use Rattle.findings.specs.declared.PairAnswer.the-variants as pair
 use Rattle.findings.specs.declared.PostAnswer.{PostAnswer}
 use Rattle.findings.specs.declared.PostAnswer.the-variants.{Posted, Refused}
 use Rattle.findings.specs.Findings.{postSays, pairSays, equallyLong, lineOf, postOf, PostPromise}
 use Rattle.findings.specs.Batch.{placedAt, PairPromise}
-use Rattle.findings.proofs.Rules.{same-long, stands-line, line-first}
+use Rattle.findings.proofs.Rules.{same-long, long-counted, stands-line, line-first}
 
 -- the errors with a finding on a line
 abbrev pub posting : List ℤ → ℤ → ℕ → Outcome (List ℤ)
@@ -66,10 +69,11 @@ module _ (ledger marks : List ℕ) (errors : List ℤ) (line : ℕ) (error : ℤ
       by-test (λ (o : Outcome (List ℤ)). placedAt 0 o ≡ o) (equallyLong (length ledger) (length marks) (length errors))
       (λ t. first-by errors error 0 (lineOf ledger marks line error) (line-first ledger marks line error)) (λ t. refl)
 
-  -- as `post` meets it
-  pub post-lengths : {b : Bool} → b ≡ equallyLong (length ledger) (length marks) (length errors) → not b ≡ true → PostPromise ledger marks errors line error (Refused LengthsDiffer) errors
-  post-lengths is t =
-      let e = sym (post-differ (sym is ∙ not-true _ t)) in
+  -- as `post_by` meets it
+  pub post-lengths : {lines : ℕ} → length marks ≡ lines → {b : Bool} → b ≡ equallyLong (length ledger) lines (length errors) → not b ≡ true →
+      PostPromise ledger marks errors line error (Refused LengthsDiffer) errors
+  post-lengths many is t =
+      let e = sym (post-differ (sym (long-counted _ _ _ many is) ∙ not-true _ t)) in
       record { answer = ap (after (λ posted. accepted 1)) e; errors-left = ap (left (λ posted. posted) errors) e }
 
   -- as `post_pair` meets it
@@ -98,7 +102,7 @@ module _ (ledger marks : List ℕ) (errors : List ℤ) (line : ℕ) (error : ℤ
             let x = accepted-by errors error position (lineOf ledger marks line error) (sym (ap pairSays is) ∙ says) in
             promised (Posted 1) (x .0, ap (set errors item) (kept error fits) ∙ x .1)
 
-  -- and as `post` does: its one pair is at position 0
+  -- and as `post_by` does: its one pair is at position 0
   pub post-single : mag error < 2 ^ 63 → {r : PostAnswer} {errors′ : List ℤ} → PairPromise ledger marks errors 0 line (held error) r errors′ → PostPromise ledger marks errors line error r errors′
   post-single fits {r} {errors′} told =
       let p = subst (λ (z : ℤ). PairPromise ledger marks errors 0 line z r errors′) (kept error fits) told in
@@ -107,3 +111,9 @@ module _ (ledger marks : List ℕ) (errors : List ℤ) (line : ℕ) (error : ℤ
   -- as an export meets it: the error that it hands on was read from its bits
   pub post-read : mag error < 2 ^ 63 → {r : PostAnswer} {errors′ : List ℤ} → PostPromise ledger marks errors line (held error) r errors′ → PostPromise ledger marks errors line error r errors′
   post-read fits {r} {errors′} told = subst (λ (z : ℤ). PostPromise ledger marks errors line z r errors′) (kept error fits) told
+
+-- and as `post` meets it: all eight bits are the marks
+pub post-plain : (ledger marks : List ℕ) (errors : List ℤ) (line : ℕ) (error : ℤ) → mag error < 2 ^ 63 → {r : PostAnswer} {errors′ : List ℤ} →
+    PostPromise ledger (bitsOf All marks) errors line (held error) r errors′ → PostPromise ledger marks errors line error r errors′
+post-plain ledger marks errors line error fits {r} {errors′} told =
+    subst (λ (own : List ℕ). PostPromise ledger own errors line error r errors′) (bits-all marks) (post-read ledger (bitsOf All marks) errors line error fits told)

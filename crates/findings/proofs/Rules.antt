@@ -15,6 +15,9 @@ use Rattle.terms.specs.Numbers.{pick}
 use Rattle.terms.proofs.Tests.{by-test}
 use Rattle.terms.proofs.Outcomes.{never}
 use Rattle.signed.specs.Errors.{sizeOf}
+use Rattle.bits.specs.declared.Bits.{Bits}
+use Rattle.bits.specs.Own.{ownOf, bitsOf}
+use Rattle.bits.proofs.Lists.{bits-length, bits-at}
 use Rattle.signed.proofs.Signs.{held, size-read}
 use Rattle.findings.specs.declared.PairAnswer.the-variants.{Line, Refused}
 use Rattle.findings.specs.Findings.{pairSays, misplaced, lineOf, equallyLong}
@@ -34,8 +37,12 @@ module _ (ledger marks errors : ℕ) where
       by-test (λ (b : Bool). b ≡ true → (marks ≡ ledger) × (errors ≡ ledger)) (eqb marks ledger)
       (λ t e. (eqb-true _ _ t, eqb-true _ _ e)) (λ t e. let z : _≡_ {A = ℕ} 0 1 = cc in absurd (omega arith))
 
-  pub long-told : {b : Bool} → b ≡ equallyLong ledger marks errors → not b ≡ false → (marks ≡ ledger) × (errors ≡ ledger)
-  long-told is t = long-same (sym is ∙ not-false _ t)
+  -- the code counts the marks whose own bits they are
+  pub long-counted : {lines : ℕ} → marks ≡ lines → {b : Bool} → b ≡ equallyLong ledger lines errors → b ≡ equallyLong ledger marks errors
+  long-counted many is = is ∙ ap (λ (k : ℕ). equallyLong ledger k errors) (sym many)
+
+  pub long-told : {lines : ℕ} → marks ≡ lines → {b : Bool} → b ≡ equallyLong ledger lines errors → not b ≡ false → (marks ≡ ledger) × (errors ≡ ledger)
+  long-told many is t = long-same (sym (long-counted many is) ∙ not-false _ t)
 
   pub same-long : marks ≡ ledger → errors ≡ ledger → equallyLong ledger marks errors ≡ true
   same-long m e = sym (long-marks m) ∙ eq-eqb _ _ e
@@ -55,6 +62,14 @@ module _ (mark size : ℕ) where
         by : (b : Bool) → not b ≡ pick b false true
         by true = refl
         by false = refl
+
+-- the own bits of a line's mark, as `line_of` reads them
+module _ (bits : Bits) (marks : List ℕ) (line : ℕ) where
+  pub mark-inside : {lines : ℕ} → length (bitsOf bits marks) ≡ lines → line < lines → line < length marks
+  mark-inside same inside = omega (arith, bits-length bits marks)
+
+  pub mark-read : (size : ℕ) {mark : ℕ} {b : Bool} → mark ≡ ownOf bits (getD marks line 0) → b ≡ misplaced mark size → b ≡ misplaced (getD (bitsOf bits marks) line 0) size
+  mark-read size is told = told ∙ ap (λ (k : ℕ). misplaced k size) (is ∙ sym (bits-at bits marks line))
 
 -- where a finding may stand: its line is in the ledger, the error's size is within the value, and the mark says drawn or full where it is not 0
 pub record Stands (ledger marks : List ℕ) (line : ℕ) (error : ℤ) : Type 0 where

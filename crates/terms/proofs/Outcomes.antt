@@ -66,7 +66,7 @@ listed p =
     Refusal.TotalZero ∷ Refusal.ToleranceOutOfRange ∷ Refusal.ToleranceSpent ∷ Refusal.NoDraws ∷ Refusal.NoLegalFile ∷
     Refusal.IntervalTooLarge ∷ Refusal.StartOutOfRange p ∷ Refusal.NoWordPasses p ∷ Refusal.LengthsDiffer ∷ Refusal.ErrorAboveValue p ∷
     Refusal.ErrorNotDrawn p ∷ Refusal.TooManyErrors ∷ Refusal.FileBreaksRule p ∷ Refusal.RoomTooShort p ∷ Refusal.NoLegalFile ∷
-    Refusal.LineNotThere p ∷ Refusal.NoLegalFile ∷ Refusal.StrataOutOfRange ∷ Refusal.TooFewDraws ∷ Refusal.NoLegalFile ∷
+    Refusal.LineNotThere p ∷ Refusal.NoLegalFile ∷ Refusal.StrataOutOfRange ∷ Refusal.TooFewDraws ∷ Refusal.UnknownTeam ∷
     Refusal.UnknownTolerance ∷ Refusal.TooManyExceptions ∷ Refusal.TooManyJudgements ∷ Refusal.SumTooLarge ∷ Refusal.NoLegalFile ∷
     Refusal.CountsDoNotAdd ∷ []
 
@@ -99,6 +99,7 @@ found Refusal.NoLegalFile = refl
 found (Refusal.LineNotThere position) = refl
 found Refusal.StrataOutOfRange = refl
 found Refusal.TooFewDraws = refl
+found Refusal.UnknownTeam = refl
 found Refusal.UnknownTolerance = refl
 found Refusal.TooManyExceptions = refl
 found Refusal.TooManyJudgements = refl

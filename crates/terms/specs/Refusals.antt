@@ -29,6 +29,7 @@ tells Refusal.NoLegalFile = row 19 0
 tells (Refusal.LineNotThere position) = row 20 position
 tells Refusal.StrataOutOfRange = row 22 0
 tells Refusal.TooFewDraws = row 23 0
+tells Refusal.UnknownTeam = row 24 0
 tells Refusal.UnknownTolerance = row 25 0
 tells Refusal.TooManyExceptions = row 26 0
 tells Refusal.TooManyJudgements = row 27 0

@@ -1,6 +1,7 @@
 // Runs every operation on the cases of standard input and writes a line for each: the answer, and a digest of every lent list.
 // The form of the cases is told in docs/VECTORS.md. One case is held at a time.
 mod by_strata; // by_strata.rt: cases by strata
+mod by_team; // by_team.rt: cases by a team's own bits
 mod postings; // postings.rt: cases of findings
 mod projected; // projected.rt: cases of the projected lines
 mod reads; // reads.rt: cases of a read
@@ -46,6 +47,7 @@ fn run(
         10..=12 => by_strata::run(number, case, numbers, errors, room),
         13 => seasons::run(number, case, numbers),
         16 | 17 => postings::run(number, case, numbers, errors, amounts, room),
+        18..=21 => by_team::run(number, case, numbers, errors, amounts, room),
         _ => steps::run(number, case, numbers, errors, room),
     }
 }

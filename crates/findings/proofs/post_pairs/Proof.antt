@@ -3,15 +3,16 @@
 use borrow.Author.Needs.{needs}
 use Prim.Native.Nat.{_-_}
 use lib.ListN.{length}
+use Rattle.bits.specs.Own.{bitsOf}
 use Rattle.findings.proofs.Pairs.{Posting, posting-none, posting-stops, posting-more, posting-end}
 use Rattle.findings.proofs.post_pairs.Statement.{statement}
 use Rattle.findings.proofs.post_pairs.Tie as tie
 
 abbrev Inv-loop : tie.InvT-loop
-Inv-loop ledger marks errors₀ lines found position₀ errors position = Posting ledger marks errors₀ lines found position errors
+Inv-loop bits ledger marks errors₀ lines found position₀ errors position = Posting ledger (bitsOf bits marks) errors₀ lines found position errors
 
 abbrev μ-loop : tie.MeasureT-loop
-μ-loop ledger marks errors₀ lines found position₀ errors position = length lines - position
+μ-loop bits ledger marks errors₀ lines found position₀ errors position = length lines - position
 
 pub post-pairs-spec : {M : Type 1} → statement M
 post-pairs-spec =

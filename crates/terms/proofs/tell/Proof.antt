@@ -43,4 +43,5 @@ tell-spec =
     (λ c. search arm) (λ c. search arm) (λ c. search arm)
     (λ c. search arm) (λ c. search arm) (λ c. search arm)
     (λ c. search arm) (λ c. search arm) (λ c. search arm)
+    (λ c. search arm) (λ c. search arm) (λ c. search arm)
     (λ c. search arm) (λ c. search arm) (λ c. search arm))

@@ -1,0 +1,4 @@
+-- What callers cite.
+pub mod Marks
+pub mod Lists
+pub mod Writing

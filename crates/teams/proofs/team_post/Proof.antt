@@ -1,0 +1,16 @@
+-- `teams::team_post` meets its contract: 24, or the call by the team's own bits. Assumes nothing.
+use borrow.Author.Needs.{needs}
+use Rattle.findings.proofs.Posting.{post-read}
+use Rattle.teams.proofs.Answer.{team-unknown, team-acting}
+use Rattle.teams.proofs.team_post.Statement.{statement}
+use Rattle.teams.proofs.team_post.Tie as tie
+
+pub team-post-spec : {M : Type 1} → statement M
+team-post-spec =
+    tie.close
+    (tie.spec
+    (λ c κs. search needs) (λ c. search needs) (λ c. search needs)
+    (λ c κs. search needs)
+    (λ c. search team-unknown)
+    (λ c. search needs)
+    (λ c. search (team-acting, post-read)))

@@ -26,8 +26,8 @@
  *     mus_project               616   224 + 48 r            4,544
  *     mus_project_lines         664   272 + 48 r            4,592
  *     mus_board_draw            176   128 + 48 r            4,448
- *     mus_board_project         504   272 + 48 r            4,592
- *     mus_judge               1,560   1,168 + 48 r          5,488
+ *     mus_board_project         600   208 + 48 r            4,528
+ *     mus_judge               1,448   1,056 + 48 r          5,376
  *     mus_strata_plan         7,792   7,744 + 48 r         12,064
  *     mus_strata_draw         6,512   6,464 + 48 r         10,784
  *     mus_strata_project     11,184   11,136 + 48 r        15,456
@@ -43,7 +43,7 @@
  *     mus_attribute_bound       384
  *     mus_read                  288
  *     mus_write                 136
- *     mus_sheet              34,920   34,656 + 48 r        38,976
+ *     mus_sheet              35,712   35,344 + 48 r        39,664
  *
  * It was measured on the library as `rt staticlib mus` makes it (docs/PERFORMANCE.md). */
 #ifndef MUS_H

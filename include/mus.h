@@ -25,7 +25,9 @@
  *     mus_draw                  176   128 + 48 r            4,448
  *     mus_project               616   224 + 48 r            4,544
  *     mus_project_lines         664   272 + 48 r            4,592
- *     mus_judge               1,560   1,168 + 48 r          5,488
+ *     mus_board_draw            176   128 + 48 r            4,448
+ *     mus_board_project         600   208 + 48 r            4,528
+ *     mus_judge               1,448   1,056 + 48 r          5,376
  *     mus_strata_plan         7,792   7,744 + 48 r         12,064
  *     mus_strata_draw         6,512   6,464 + 48 r         10,784
  *     mus_strata_project     11,184   11,136 + 48 r        15,456
@@ -41,7 +43,7 @@
  *     mus_attribute_bound       384
  *     mus_read                  288
  *     mus_write                 136
- *     mus_sheet              34,920   34,656 + 48 r        38,976
+ *     mus_sheet              35,712   35,344 + 48 r        39,664
  *
  * It was measured on the library as `rt staticlib mus` makes it (docs/PERFORMANCE.md). */
 #ifndef MUS_H
@@ -266,6 +268,12 @@ struct mus_draw_result mus_draw(const uint64_t *ledger, size_t ledger_length, ui
  * apart. Refusals 2, 13, 3, 4, 5, 8, 11, 14, 15. */
 struct mus_project_result mus_project(const uint64_t *ledger, size_t ledger_length, uint64_t n, uint64_t start, const int64_t *errors, size_t errors_length);
 
+/* The blackboard method: the draw and the projection by walking. For each drawing point lines are counted off from the first until the point is
+ * covered, so a call takes points x lines steps; it is for a class, and for a check. Every answer, mark and refusal is that of mus_draw and of
+ * mus_project, which is proved. Refusals 2, 13, 3, 4, 5, 8, 11; the projection 14 and 15 besides. */
+struct mus_draw_result mus_board_draw(const uint64_t *ledger, size_t ledger_length, uint64_t n, uint64_t start, uint8_t *marks, size_t marks_length);
+struct mus_project_result mus_board_project(const uint64_t *ledger, size_t ledger_length, uint64_t n, uint64_t start, const int64_t *errors, size_t errors_length);
+
 /* The same projection, line by line: answers what mus_project answers, and writes for each line what it projects into amounts, which has an
  * entry for each line: its error where it is full, its amount with the error's sign where it is drawn, 0 elsewhere. They add to net. A
  * program never has to multiply by the interval itself. Refusals 2, 13 (for errors or amounts), 3, 4, 5, 8, 11, 14, 15. */
@@ -349,8 +357,10 @@ struct mus_read_result mus_read(const uint8_t *file, size_t file_length, uint64_
 struct mus_write_result mus_write(uint8_t level, uint64_t te, uint64_t ae, const uint64_t *words, size_t words_length, const uint64_t *values, size_t values_length, const int64_t *errors, size_t errors_length, uint8_t *file, size_t file_length);
 
 /* Prints the sheet of a working file: the desk program's whole text, or its line "refused", number and place where the file or a step
- * is refused. page has room for at least MUS_LONGEST_TEXT bytes; bytes past the text stay as they were. Refusal 18, for the page alone. */
-struct mus_sheet_result mus_sheet(const uint8_t *file, size_t file_length, uint8_t *page, size_t page_length);
+ * is refused. Where the input begins with the byte 0x42 the file is what follows it, and the draw and the projection go by the blackboard method: the
+ * text is the same, places too, and it takes points x lines steps. Only the first byte is taken so. page has room for at least
+ * MUS_LONGEST_TEXT bytes; bytes past the text stay as they were. Refusal 18, for the page alone. */
+struct mus_sheet_result mus_sheet(const uint8_t *input, size_t input_length, uint8_t *page, size_t page_length);
 
 #ifdef __cplusplus
 }

@@ -1,5 +1,6 @@
 """Texts and files that tools/test-desk hands to tools/desk, and what is said to each."""
 
+import reference
 import samples
 
 PRACTICE = (samples.SAMPLES / "practice.txt").read_bytes()
@@ -11,6 +12,10 @@ FOUR = (samples.SAMPLES / "programmes-four.txt").read_bytes()
 FOUR_SHEET = (samples.SAMPLES / "programmes-four.out").read_text()
 
 MARKED = "the text begins with a byte-order mark: save it as UTF-8 without one"
+
+# The longest working file: 64 words, and 2,048 lines, each of them drawn and with an error.
+LONGEST = reference.encode(90, 2_310_000, 0, [0] * 64, [1_000_000] * 2_048, [-1] * 2_048)
+LONGEST_SHEET = reference.desk(LONGEST).decode()
 
 # Name, bytes, and what tools/desk says to them: words on standard error, or a text on standard output with its status.
 FILES = [
@@ -32,6 +37,24 @@ FILES = [
     ("cut", FILE[:-1], "refused 17 111\n"),
     ("long", FILE + bytes(2_000_000), "refused 17 124\n"),
     ("comments.hex", b"# no digit\n", "refused 17 0\n"),
+    ("board.txt", b"B\n" + PRACTICE, SHEET),
+    ("board", b"\t B\r\n" + PRACTICE, SHEET),
+    ("board.file", b"B" + FILE, SHEET),
+    ("board.hex", b"# the byte\n42\n" + HEX, SHEET),
+    ("board-cut", b"B" + FILE[:-1], "refused 17 111\n"),
+    ("board-long", b"B" + FILE + bytes(2_000_000), "refused 17 124\n"),
+    ("board-twice", b"BB" + FILE, "refused 17 0\n"),
+    ("board-alone.hex", b"42\n", "refused 17 0\n"),
+    ("longest", LONGEST, LONGEST_SHEET),
+    ("longest-after", LONGEST + b"P", "refused 17 45663\n"),
+    ("board-longest", b"B" + LONGEST, LONGEST_SHEET),
+    ("board-longest-after", b"B" + LONGEST + b"P", "refused 17 45663\n"),
+    ("board-second.txt", b"B\nB\n" + PRACTICE, "line 2: the line begins with none of P, W, L, E, U and #"),
+    ("board-late.txt", PRACTICE + b"B\n", f"line {len(PRACTICE.splitlines()) + 1}: the line begins with none of P, W, L, E, U and #"),
+    ("board-number.txt", b"B 1\n" + PRACTICE, "line 1: the line begins with none of P, W, L, E, U and #"),
+    ("board-point.txt", b"B\nP 90 100 0\nL 30.5\n", "line 3: a number has decimal digits only"),
+    ("board-only.txt", b"B\n", "line 2: P has to come first"),
+    ("board-strata.txt", b"B\nN 5\n", "line 2: the line begins with none of P, W, L, E, U and #"),
     ("total-0.txt", b"P 90 100 0\n", "refused 5 0\n"),
     ("point.txt", b"P 90 100 0\nL 30.5\n", "line 2: a number has decimal digits only"),
     ("point", b"P 90 100 0\nL 30.5\n", "line 2: a number has decimal digits only"),

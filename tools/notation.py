@@ -2,7 +2,7 @@
 """The notation: the text of a working file, one record a line, read by its definition in words.
 
     python3 tools/notation.py check     the practice text, every fault, the edges of every limit, random contents
-    python3 tools/notation.py pack      a text in, its working file out; or the line of its first fault on standard error
+    python3 tools/notation.py pack      a text in, its working file out, after the byte 0x42 where it asks for the blackboard; or the line of its first fault on standard error
 
 A text is lines; each ends with a newline, which the last may lack. A line is fields between blanks: spaces, tabs and
 carriage returns. A line without fields is passed over, and so is one whose first field begins with #. Every other line is
@@ -13,6 +13,8 @@ a record: a kind of one letter, then as many numbers as the kind has, in decimal
     L value            after P and before any E and U; at most 2,048, their sum within 64 bits
     E line error       too much was claimed; the error from 1 to 2^63 - 1
     U line size        too little was claimed, by this size from 1 to 2^63
+
+A first line that holds B and nothing else asks for the blackboard method: the byte 0x42 comes before the file. Any other line with B is wrong.
 
 The lines of E and U are numbered from 0, strictly rise, E and U taken together, and are below the count of L.
 
@@ -78,8 +80,8 @@ class Wrong(Exception):
 class Contents:
     """What the records so far say."""
 
-    def __init__(self):
-        self.plan = None
+    def __init__(self, by_board=False):
+        self.by_board, self.plan = by_board, None
         self.words, self.values, self.errors = [], [], {}
 
     def all_errors(self):
@@ -87,6 +89,9 @@ class Contents:
 
     def file(self):
         return reference.encode(*self.plan, self.words, self.values, self.all_errors())
+
+    def packed(self):
+        return b"\x42" * self.by_board + self.file()
 
 
 def lines_of(text):
@@ -197,10 +202,18 @@ def take_line(contents, line, by):
     TAKE[kind](contents, *numbers)
 
 
+def asks_for_board(lines, by):
+    """Only the desk's texts have the line B, and only as the first."""
+    return by is DESK and [fields_of(line) for line in lines[:1]] == [[b"B"]]
+
+
 def parse(text, by=DESK):
     """The contents of a text, or its first fault; a text without P or N is at fault in the line after its last."""
-    contents, number = Contents(), 0
-    for number, line in enumerate(lines_of(text), start=1):
+    lines, number = lines_of(text), 0
+    contents = Contents(asks_for_board(lines, by))
+    for number, line in enumerate(lines, start=1):
+        if number == 1 and contents.by_board:
+            continue
         try:
             take_line(contents, line, by)
         except Wrong as wrong:
@@ -235,7 +248,7 @@ def main(arguments):
         found = parse(sys.stdin.buffer.read())
         if isinstance(found, Fault):
             sys.exit(found.text().rstrip("\n"))
-        sys.stdout.buffer.write(found.file())
+        sys.stdout.buffer.write(found.packed())
     else:
         sys.exit(__doc__)
 

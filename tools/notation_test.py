@@ -71,8 +71,22 @@ def in_strata():
     same("words", [Fault(1, 6).text(by) for by in (DESK, PROGRAMMES)], ["line 1: P has to come first\n", "line 1: N has to come first\n"])
 
 
+def by_board():
+    """A first line B, and B anywhere else; the numbers of the lines count it."""
+    for opening in (b"B\n", b" \tB\r\n", b"B \n"):
+        found = parse(opening + PRACTICE)
+        same(opening, (found.by_board, found.packed()), (True, b"B" + parse(PRACTICE).file()))
+    same("without it", parse(PRACTICE).packed(), parse(PRACTICE).file())
+    same("the byte alone", parse(b"B\nP 90 100 0").packed()[:2], b"BP")
+    wrong = ((b"B", 2, 6), (b"B\nB\n" + PLAN, 2, 1), (b"\nB\n" + PLAN, 2, 1), (b"#\nB\n" + PLAN, 2, 1), (PLAN + b"B", 2, 1), (b"b\n" + PLAN, 1, 1), (b"BB\n" + PLAN, 1, 1))
+    wrong += ((b"B 1\n" + PLAN, 1, 1), (b"B #\n" + PLAN, 1, 1), (b"B P 90 100 0", 1, 1), (b"B\n" + PLAN + b"L 1,000", 3, 3), (b"B\nW 63\n" + PLAN, 2, 6), (b"B\nN 3", 2, 1))
+    for text, line, number in wrong:
+        same(text[:40], parse(text), Fault(line, number))
+    same("in strata", parse(b"B\nN 3", PROGRAMMES), Fault(1, 1))
+
+
 def random_contents(r):
-    contents = Contents()
+    contents = Contents(r.random() < 0.2)
     contents.plan = r.randrange(256), r.choice((0, 1, MOST_NUMBER)), r.randrange(10**6)
     contents.words = [r.randrange(2**64) for _ in range(r.choice((0, 1, 5, 64)))]
     contents.values = [r.randrange(10 ** r.randrange(1, 14)) for _ in range(r.choice((0, 1, 20, 2048)))]
@@ -102,7 +116,7 @@ def random_line(r, kind, *numbers):
 
 def random_text(r, contents):
     """A text of a content, with blank lines and comments."""
-    lines = []
+    lines = [random_line(r, "B")] * contents.by_board
     for record in records_of(contents):
         lines += r.choice(([], [], [""], ["  # L 5"]))
         lines.append(random_line(r, *record))
@@ -121,6 +135,7 @@ def run():
     widest = parse(PLAN + b"L 1\nL 1\nU 0 9223372036854775808\nE 1 9223372036854775807")
     same("widest errors", widest.all_errors(), [-(2**63), 2**63 - 1])
     in_strata()
+    by_board()
     r = random.Random(1)
     for _ in range(200):
         contents = random_contents(r)
@@ -130,4 +145,6 @@ def run():
         expected = contents.plan, contents.words, contents.values, contents.all_errors()
         same(text[:40], (found.plan, found.words, found.values, found.all_errors()), expected)
         same(text[:40], reference.decode(found.file()), expected)
-    print("notation: the practice text, every fault, every limit, ledgers in strata and 200 random texts agree")
+        same(text[:40], reference.file_given(found.packed()), found.file())
+        same(text[:40], found.by_board, contents.by_board)
+    print("notation: the practice text, every fault, every limit, ledgers in strata, the line B and 200 random texts agree")

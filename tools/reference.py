@@ -4,14 +4,15 @@
 It is written from the rules alone, in exact whole numbers, to be read beside them. It shares nothing with the
 proved program, so that the two can be held against each other. The operations by strata stand in tools/reference_strata.py, the
 program for them in tools/reference_programmes.py, the tally of a season in tools/reference_season.py, the attribute job aid in tools/reference_attributes.py,
-findings by the batch in tools/reference_findings.py, two teams on one ledger in tools/reference_teams.py.
+findings by the batch in tools/reference_findings.py, two teams on one ledger in tools/reference_teams.py,
+the blackboard method in tools/reference_board.py.
 
 An operation takes its inputs and its lent buffers (lists of numbers, or bytearrays), and returns its answer or a
 Refusal (number, place). It stores into a lent buffer only after its last check: a refused call leaves every buffer, but that a batch of findings
 leaves the pairs before the refused one posted.
 
     python3 tools/reference.py check       the practice sheet, and the sums over all starts of random ledgers
-    python3 tools/reference.py desk        the desk program: a working file in, its text out
+    python3 tools/reference.py desk        the desk program: a working file in, or the byte 0x42 and one, its text out
     python3 tools/reference.py factors     the nine rows of sixty-four factors
 """
 
@@ -606,10 +607,15 @@ def desk_lines(file):
     yield text_line("judge", precision, upper_limit, verdict)
 
 
-def desk(file):
-    """The whole output for the bytes of standard input."""
+def file_given(given):
+    """The working file in the bytes of standard input: what follows one byte 0x42, with which the blackboard method is asked for, or all of them."""
+    return given[1:] if given[:1] == b"\x42" else given
+
+
+def desk(given):
+    """The whole output for the bytes of standard input. Both methods give the same lines (tools/reference_board.py), and places count no byte before the file."""
     try:
-        return "".join(desk_lines(file)).encode()
+        return "".join(desk_lines(file_given(given))).encode()
     except Refused as refused:
         return text_line("refused", *refused.refusal).encode()
 
@@ -618,6 +624,7 @@ def main(arguments):
     if arguments == ["check"]:
         import self_test  # they stand on this file
         import self_test_attributes
+        import self_test_board
         import self_test_findings
         import self_test_programmes
         import self_test_season
@@ -631,6 +638,7 @@ def main(arguments):
         self_test_attributes.run()
         self_test_findings.run()
         self_test_teams.run()
+        self_test_board.run()
     elif arguments == ["desk"]:
         sys.stdout.buffer.write(desk(sys.stdin.buffer.read()))
     elif arguments == ["factors"]:

@@ -27,11 +27,11 @@ SAMPLES = pathlib.Path(__file__).resolve().parent.parent / "samples"
 
 
 def pack(text):
-    """The working file of a text."""
+    """The working file of a text, after the byte 0x42 where it asks for the blackboard method."""
     found = notation.parse(text)
     if isinstance(found, notation.Fault):
         sys.exit(found.text())
-    return found.file()
+    return found.packed()
 
 
 def bytes_of_hex(text):

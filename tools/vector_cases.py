@@ -10,6 +10,7 @@ from vector_ledgers import BASE_INTERVAL, broken_ledgers, interval_of, legal_led
 from vector_lines import lines_cases
 from vector_lists import MOST_ERROR, MOST_WORD, Generated, equal, listed
 from vector_attributes import attribute_cases
+from vector_board import board_cases
 from vector_findings import findings_cases
 from vector_season import season_cases
 from vector_signed import signed_cases
@@ -199,7 +200,7 @@ def every_case():
     ways += [read_cases(r), write_cases(r), stored_reads(), largest_cases(), wide_cases(Seeded(21)), lines_cases(Seeded(22))]
     ways += [verdict_cases(), signed_cases(Seeded(23)), kind_cases(Seeded(24))]
     ways += [strata_cases(Seeded(25))] if WITH_STRATA else []
-    ways += [season_cases(Seeded(26)), attribute_cases(), findings_cases(Seeded(27)), team_cases(Seeded(28))]
+    ways += [season_cases(Seeded(26)), attribute_cases(), findings_cases(Seeded(27)), team_cases(Seeded(28)), board_cases(Seeded(29))]
     for way in ways:
         for case in way:
             if not hasattr(case, "ledger") or case.ledger.count <= LARGEST_LEDGER:

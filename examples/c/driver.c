@@ -452,6 +452,27 @@ static void sheet_cases(void)
     r = mus_sheet(NULL, 0, page, sizeof page);
     printed(r, page, "refused 17 0\n", "the sheet of no file");
 }
+
+/* After the byte of the blackboard method: the same sheet, the same place of a refusal, and a second such byte is the file's. */
+static void board_sheet_cases(void)
+{
+    static uint8_t page[MUS_LONGEST_TEXT + 9];
+    uint8_t input[2 + sizeof practice_file] = {0x42, 0x42};
+    struct mus_sheet_result r;
+    memcpy(input + 2, practice_file, sizeof practice_file);
+    memset(page, 0xA5, sizeof page);
+    r = mus_sheet(input + 1, 1 + sizeof practice_file, page, sizeof page);
+    printed(r, page, "plan 90 120 100 0 3\nsplit 40 3 120 0 0\nstart 25 2\ndrawn 0 30 7 10\ndrawn 2 40 10 10\ndrawn 3 20 5 10\nproject 0 30 3 0 0 30\njudge 107 137 inconclusive\n", "the practice sheet by the blackboard method");
+    memset(page, 0xA5, sizeof page);
+    r = mus_sheet(input + 1, sizeof practice_file, page, sizeof page);
+    printed(r, page, "refused 17 111\n", "a place does not count the byte");
+    memset(page, 0xA5, sizeof page);
+    r = mus_sheet(input, sizeof input, page, sizeof page);
+    printed(r, page, "refused 17 0\n", "a second byte is the file's");
+    memset(page, 0xA5, sizeof page);
+    r = mus_sheet(input, 1, page, sizeof page);
+    printed(r, page, "refused 17 0\n", "the byte alone");
+}
 #endif
 
 int main(int argc, char **argv)
@@ -473,8 +494,10 @@ int main(int argc, char **argv)
     attribute_cases();
     findings_cases();
     team_cases();
+    board_cases();
 #ifndef WITHOUT_SHEET
     sheet_cases();
+    board_sheet_cases();
 #endif
     if (argc == 3) run_vectors(argv[1], argv[2]);
     printf("driver: %llu passed, %llu failed\n", passed, failed);

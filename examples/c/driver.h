@@ -25,6 +25,8 @@ void findings_cases(void);
 
 /* Two teams on one ledger: both on one table in either order, every byte as a team and as a mark, each refusal, and what a refused call leaves. */
 void team_cases(void);
+/* The blackboard method: worked cases, each refusal, and both methods at every start. */
+void board_cases(void);
 
 /* Stored cases of these operations, for run_vectors. */
 void strata_plan_case(void);
@@ -37,6 +39,8 @@ void team_split_case(void);
 void team_draw_case(void);
 void team_post_case(void);
 void team_post_all_case(void);
+void board_draw_case(void);
+void board_project_case(void);
 
 /* Runs each case of one file through the C interface and compares its line with the other file's: docs/VECTORS.md. */
 void run_vectors(const char *cases, const char *answers);

@@ -131,10 +131,10 @@ static void run_case(uint64_t place, FILE *answers)
 {
     static void (*const operations[])(void) = {size_case, split_case, start_case, draw_case, project_case, judge_case, read_case, write_case, lines_case,
         strata_plan_case, strata_draw_case, strata_project_case, tally_case, attribute_size_case, attribute_bound_case,
-        post_case, post_all_case, team_split_case, team_draw_case, team_post_case, team_post_all_case};
+        post_case, post_all_case, team_split_case, team_draw_case, team_post_case, team_post_all_case, board_draw_case, board_project_case};
     char what[40];
     say_place(place);
-    if (operation >= 1 && operation <= sizeof operations / sizeof operations[0]) operations[operation - 1]();
+    if (operation >= 1 && operation <= sizeof operations / sizeof operations[0] && operations[operation - 1] != NULL) operations[operation - 1]();
     snprintf(what, sizeof what, "stored case %llu", (unsigned long long) place);
     expect(same_line(answers) && case_is_read(), what);
 }

@@ -15,6 +15,8 @@ static void call_judging(void) { kept = mus_split(ledger, lines, 0, marks, lines
 static void call_split(void) { kept = mus_split(ledger, lines, draws, marks, lines).interval; }
 static void call_draw(void) { kept = mus_draw(ledger, lines, draws, start, marks, lines).drawn; }
 static void call_project(void) { kept = mus_project(ledger, lines, draws, start, errors, lines).sampled; }
+static void call_board_draw(void) { kept = mus_board_draw(ledger, lines, draws, start, marks, lines).drawn; }
+static void call_board_project(void) { kept = mus_board_project(ledger, lines, draws, start, errors, lines).sampled; }
 static void call_lines(void) { kept = mus_project_lines(ledger, lines, draws, start, errors, lines, amounts, lines).sampled; }
 static void call_judge(void) { kept = mus_judge(95, ledger, lines, draws, start, errors, lines, te).precision; }
 static void call_size(void) { kept = mus_size(95, 1000000, 20000, 4000).draws; }
@@ -54,6 +56,7 @@ static void set_no_errors(void) { plain_ledger(); find_errors(0); }
 static void set_project(void) { plain_ledger(); find_errors(20); }
 static void set_project_both(void) { plain_ledger(); find_errors(MOST); turn_errors(); }
 static void set_project_wide(void) { wide_ledger(); find_errors(20); }
+static void set_walk(void) { plain_ledger(); draws = 20; find_errors(20); turn_errors(); }
 static void set_most_errors(void) { plain_ledger(); find_errors(MUS_MOST_ERRORS); }
 static void set_read(void) { longest_content(); call_write(); }
 static void set_strata(void) { plain_ledger(); in_strata(MUS_MOST_STRATA); strata_errors(); }
@@ -135,6 +138,11 @@ static const struct row {
     {"project-both", set_project_both, call_project},
     {"project-wide", set_project_wide, call_project},
     {"project-widest", widest_ledger, call_project},
+    {"board-draw", set_walk, call_board_draw},
+    {"board-draw-deep", set_deep, call_board_draw},
+    {"board-project", set_walk, call_board_project},
+    {"board-project-deep", set_deep, call_board_project},
+    {"board-project-widest", widest_ledger, call_board_project},
     {"lines", set_project, call_lines},
     {"lines-deep", set_deep, call_lines},
     {"lines-widest", widest_ledger, call_lines},

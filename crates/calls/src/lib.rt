@@ -10,6 +10,8 @@ use results::StrataProjectResult;
 use results::TallyResult;
 use season::Tally;
 
+pub mod board; // board.rt: the blackboard method
+
 // An answer of figures alone.
 fn answer(refusal: u64, place: u64, figures: [u64; 5], count: usize) -> Answer {
     Answer {

@@ -51,6 +51,7 @@ use Rattle.starts.specs.Starts.{StartsPromise}
 use Rattle.reply.proofs.Laws.{reply-once}
 use Rattle.season.proofs.Laws.{add-once}
 use Rattle.attributes.proofs.Answers.{items-once, bound-once}
+use Rattle.blackboard.proofs.Once.{board-draw-once, board-project-once}
 use Rattle.findings.specs.Findings.{PostPromise}
 use Rattle.findings.specs.Batch.{PostAllPromise}
 use Rattle.findings.proofs.Answers.{post-once, post-all-once}
@@ -157,7 +158,7 @@ written-then-read-once _ _ _ _ _ _ _ _ _ _ _ _ p q = let same = write-read-once 
 read-then-written-once : (file again : List ℕ) → OneWith (ReadThenWrite file again)
 read-then-written-once _ _ _ _ _ _ p q = read-write-once p q
 
-sheets-once : (file page : List ℕ) → OneWith (SheetPromise file page)
+sheets-once : (input page : List ℕ) → OneWith (SheetPromise input page)
 sheets-once _ _ _ _ _ _ p q = sheet-once p q
 
 -- where a promise leaves one answer, it leaves one result for C
@@ -184,6 +185,8 @@ no-freedom =
       draw = draws-once;
       project = project-once;
       project-lines = lines-once;
+      board-draw = board-draw-once;
+      board-project = board-project-once;
       judge = judge-once;
       steps = λ _ _ _ _ _ _ p q. steps-once p q;
       strata-plan = λ _ _ _ _. plan-once _;
@@ -222,6 +225,8 @@ no-freedom =
       mus-draw = λ ledger n start marks. sees-with (draws-once ledger n start marks);
       mus-project = λ ledger n start errors. sees (project-once ledger n start errors);
       mus-project-lines = λ ledger n start errors amounts. sees-with (lines-once ledger n start errors amounts);
+      mus-board-draw = λ ledger n start marks. sees-with (board-draw-once ledger n start marks);
+      mus-board-project = λ ledger n start errors. sees (board-project-once ledger n start errors);
       mus-judge = λ percent ledger n start errors te. sees (judge-once percent ledger n start errors te);
       mus-strata-plan = λ _ _ _. sees (plan-once _);
       mus-strata-draw = λ ledger counts n starts marks. sees-with (strata-draw-once ledger counts n starts marks);
@@ -238,5 +243,5 @@ no-freedom =
       mus-team-post-all = λ _ _ marks _ _ _. sees-with (λ _ _ _ _ p q. team-post-all-once marks p q);
       mus-read = λ file words values errors. sees-with (reads-once file words values errors);
       mus-write = λ plan words values errors file. sees-with (writes-once plan words values errors file);
-      mus-sheet = λ file page. sees-with (sheets-once file page);
+      mus-sheet = λ input page. sees-with (sheets-once input page);
     }

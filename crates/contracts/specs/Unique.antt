@@ -16,6 +16,8 @@ use Rattle.start.specs.Start.{startSays, StartPromise}
 use Rattle.draw.specs.Draw.{drawSays, DrawPromise}
 use Rattle.project.specs.Project.{projectSays, ProjectPromise}
 use Rattle.lines.specs.Each.{LinesPromise}
+use Rattle.blackboard.specs.Draw.{boardDrawSays, BoardDrawPromise}
+use Rattle.blackboard.specs.Project.{boardProjectSays, BoardProjectPromise}
 use Rattle.findings.specs.Findings.{postSays, PostPromise}
 use Rattle.findings.specs.Batch.{PostAllPromise}
 use Rattle.teams.specs.Teams.{TeamSplitPromise, TeamDrawPromise, TeamPostPromise, TeamPostAllPromise}
@@ -39,7 +41,7 @@ use Rattle.workfile.specs.declared.Plan.{Plan}
 use Rattle.workfile.specs.Promises.{readSays, writeSays, ReadPromise, WritePromise}
 use Rattle.roundtrip.specs.RoundTrip.{WriteThenRead, ReadThenWrite}
 use Rattle.pen.specs.Page.{Printed}
-use Rattle.sheet.specs.Sheet.{sheetText, sheetSays, SheetPromise}
+use Rattle.sheet.specs.Sheet.{deskText, sheetSays, SheetPromise}
 use Rattle.entry.specs.declared.Notation.{Notation}
 use Rattle.notation.specs.declared.Fault.{Fault}
 use Rattle.notation.specs.Parse.{ParsePromise}
@@ -49,6 +51,7 @@ use Rattle.starts.specs.Starts.{startsOf, StartsPromise}
 use Rattle.reply.specs.Reply.{replyOf, ReplyPromise}
 use Rattle.results.specs.Seen.{Sees}
 use Rattle.results.specs.Results.{sizeSeen, splitSeen, startSeen, drawSeen, projectSeen, judgeSeen, readSeen, writeSeen, sheetSeen}
+use Rattle.results.specs.Walked.{boardProjectSeen}
 use Rattle.results.specs.Control.{itemsSeen, boundSeen}
 use Rattle.results.specs.Findings.{postSeen}
 use Rattle.results.specs.Season.{entryFrom, tallySeen}
@@ -78,6 +81,9 @@ pub record NoFreedom : Type 0 where
   pub draw : (ledger : List ℕ) (n start : ℕ) (marks : List ℕ) → OneWith (DrawPromise ledger n start marks)
   pub project : (ledger : List ℕ) (n start : ℕ) (errors : List ℤ) → One (ProjectPromise ledger n start errors)
   pub project-lines : (ledger : List ℕ) (n start : ℕ) (errors amounts : List ℤ) → OneWith (LinesPromise ledger n start errors amounts)
+  -- the blackboard method
+  pub board-draw : (ledger : List ℕ) (n start : ℕ) (marks : List ℕ) → OneWith (BoardDrawPromise ledger n start marks)
+  pub board-project : (ledger : List ℕ) (n start : ℕ) (errors : List ℤ) → One (BoardProjectPromise ledger n start errors)
   pub judge : (percent : ℕ) (ledger : List ℕ) (n start : ℕ) (errors : List ℤ) (te : ℕ) → One (JudgePromise percent ledger n start errors te)
   pub steps : (plan : Plan) (words ledger : List ℕ) (errors : List ℤ) → One (StepsPromise plan words ledger errors)
   -- the ledger by strata; what the others start from too
@@ -110,8 +116,8 @@ pub record NoFreedom : Type 0 where
   pub write-then-read : (plan : Plan) (words values : List ℕ) (errors : List ℤ) (file words-before values-before : List ℕ) (errors-before : List ℤ)
       → OneWith (λ r (b : List ℕ × Three). WriteThenRead plan words values errors file words-before values-before errors-before r (b .0) (b .1 .0) (b .1 .1) (b .1 .2))
   pub read-then-write : (file again : List ℕ) → OneWith (ReadThenWrite file again)
-  pub sheet : (file page : List ℕ) → OneWith (Printed (sheetText file) page)
-  pub sheet-in : (file page : List ℕ) → OneWith (SheetPromise file page)
+  pub sheet : (input page : List ℕ) → OneWith (Printed (deskText input) page)
+  pub sheet-in : (input page : List ℕ) → OneWith (SheetPromise input page)
   pub parse : (by : Notation) (text words values : List ℕ) (errors : List ℤ) → OneWith (λ r (b : Three). ParsePromise by text words values errors r (b .0) (b .1) (b .2))
   pub print-fault : (by : Notation) (fault : Fault) (page : List ℕ) → OneWith (Printed (faultText by fault) page)
   pub divide : (text : List ℕ) → One (λ r. r ≡ storedIn (dividedOf text))
@@ -125,6 +131,8 @@ pub record NoFreedom : Type 0 where
   pub mus-project : (ledger : List ℕ) (n start : ℕ) (errors : List ℤ) → One (Sees projectSeen projectSays (ProjectPromise ledger n start errors))
   pub mus-project-lines : (ledger : List ℕ) (n start : ℕ) (errors amounts : List ℤ)
       → OneWith (λ r b. Sees projectSeen projectSays (λ a. LinesPromise ledger n start errors amounts a b) r)
+  pub mus-board-draw : (ledger : List ℕ) (n start : ℕ) (marks : List ℕ) → OneWith (λ r b. Sees drawSeen boardDrawSays (λ a. BoardDrawPromise ledger n start marks a b) r)
+  pub mus-board-project : (ledger : List ℕ) (n start : ℕ) (errors : List ℤ) → One (Sees boardProjectSeen boardProjectSays (BoardProjectPromise ledger n start errors))
   pub mus-judge : (percent : ℕ) (ledger : List ℕ) (n start : ℕ) (errors : List ℤ) (te : ℕ)
       → One (Sees judgeSeen judgeSays (JudgePromise percent ledger n start errors te))
   pub mus-strata-plan : (ledger counts : List ℕ) (n : ℕ) → One (Sees strataPlanSeen (λ a. a) (PlanPromise (planOf ledger counts n true)))
@@ -153,4 +161,4 @@ pub record NoFreedom : Type 0 where
       → OneWith (λ r (b : Three). Sees readSeen readSays (λ a. ReadPromise file words values errors a (b .0) (b .1) (b .2)) r)
   pub mus-write : (plan : Plan) (words values : List ℕ) (errors : List ℤ) (file : List ℕ)
       → OneWith (λ r b. Sees writeSeen writeSays (λ a. WritePromise plan words values errors file a b) r)
-  pub mus-sheet : (file page : List ℕ) → OneWith (λ r b. Sees sheetSeen sheetSays (λ a. SheetPromise file page a b) r)
+  pub mus-sheet : (input page : List ℕ) → OneWith (λ r b. Sees sheetSeen sheetSays (λ a. SheetPromise input page a b) r)

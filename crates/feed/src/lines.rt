@@ -43,6 +43,8 @@ fn put_name(pen: Pen, page: &mut [u8], operation: u8) -> Pen {
         16 => pen.text(page, b" post"),
         17 => pen.text(page, b" postall"),
         18..=21 => put_by_team(pen, page, operation),
+        22 => pen.text(page, b" boarddraw"),
+        23 => pen.text(page, b" boardproject"),
         _ => pen.text(page, b" is of no operation"),
     }
 }
@@ -88,9 +90,9 @@ fn put_by_strata(pen: Pen, page: &mut [u8], operation: u8, d: Digests) -> Pen {
 fn put_digests(pen: Pen, page: &mut [u8], operation: u8, d: Digests) -> Pen {
     match operation {
         1 | 14 | 15 => pen,
-        2 | 4 | 18 | 19 => put_lent(pen, page, &[d.ledger, d.bytes]),
+        2 | 4 | 18 | 19 | 22 => put_lent(pen, page, &[d.ledger, d.bytes]),
         3 => put_lent(pen, page, &[d.words]),
-        5 | 6 => put_lent(pen, page, &[d.ledger, d.errors]),
+        5 | 6 | 23 => put_lent(pen, page, &[d.ledger, d.errors]),
         7 => put_lent(pen, page, &[d.bytes, d.words, d.ledger, d.errors]),
         9 => put_lent(pen, page, &[d.ledger, d.errors, d.words]),
         16 | 17 | 20 | 21 => put_lent(pen, page, &[d.ledger, d.errors, d.words, d.bytes]),

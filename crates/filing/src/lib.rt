@@ -22,7 +22,7 @@ struct First {
 fn content_entry(plan: Plan, words: &[u64], ledger: &[u64], errors: &[i64]) -> Entry
     ensures { λ r. ⌜ r ≡ contentEntry plan (now (words .entry)) (now (ledger .entry)) (now (errors .entry)) ⌝ }
 {
-    match steps::steps(plan, words, ledger, errors) {
+    match steps::steps(false, plan, words, ledger, errors) {
         StepsAnswer::Refused(_) => Entry::NotJudged,
         StepsAnswer::Answered(answers) => {
             let planned = answers.planned;

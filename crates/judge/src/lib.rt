@@ -65,7 +65,7 @@ fn conclude(te: u64, projection: Projection, precision: u64) -> Judgement
 }
 
 // Precision, upper limit and verdict, from a projection and its amounts, the first m of a list, which fall; or 16.
-fn judge_amounts(
+pub fn judge_amounts(
     level: Level,
     interval: u64,
     te: u64,

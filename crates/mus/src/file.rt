@@ -36,10 +36,10 @@ pub extern "C" fn mus_write(
     results::file::of_write(writer::write(level, te, ae, words, values, errors, file))
 }
 
-// Prints the sheet of a working file onto the page.
+// Prints the sheet of what stands on the desk program's standard input onto the page.
 #[no_mangle]
-pub extern "C" fn mus_sheet(file: &[u8], page: &mut [u8]) -> SheetResult
-    ensures { λ r. ⌜ Sees sheetSeen sheetSays (λ a. SheetPromise (now (file .entry)) (now (page .entry)) a (now (page .exit))) r ⌝ }
+pub extern "C" fn mus_sheet(input: &[u8], page: &mut [u8]) -> SheetResult
+    ensures { λ r. ⌜ Sees sheetSeen sheetSays (λ a. SheetPromise (now (input .entry)) (now (page .entry)) a (now (page .exit))) r ⌝ }
 {
-    results::file::of_sheet(sheet::sheet_in(file, page))
+    results::file::of_sheet(sheet::sheet_in(input, page))
 }

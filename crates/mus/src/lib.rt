@@ -1,5 +1,6 @@
 // The operations for C and the like. Each answers a struct by value (crate `results`). A slice is a pointer and a length. include/mus.h
 // declares them.
+mod board; // board.rt: the blackboard method
 mod by_strata; // by_strata.rt: the operations by strata
 mod by_team; // by_team.rt: two teams on one ledger
 mod control; // control.rt: the attribute job aid for control tests

@@ -113,13 +113,20 @@ module _ (item J start : ℕ) (ledger : List ℕ) (errors : List ℤ) (amounts :
   abbrev own : List ℕ
   own = amountsOf (linesWith Overstated J start ledger errors)
 
-  pub kept-amounts : (good : List Line) → checkedLines item J start ledger (parts Size errors) ≡ accepted good → length own ≤ length amounts →
-      take (length own) (keptOf item J start ledger errors amounts) ≡ sortDown own
+  -- the list after all lines, where no error breaks a rule
+  pub kept-whole : (good : List Line) → checkedLines item J start ledger (parts Size errors) ≡ accepted good →
+      keptOf item J start ledger errors amounts ≡ keptFrom (linesWith Overstated J start ledger errors) 0 amounts
   unfolding keptOf checkedLines
-  kept-amounts good e room =
+  kept-whole good e =
       let sizes : List Line = linesWith Size J start ledger errors in
       let overs : List Line = linesWith Overstated J start ledger errors in
       let all : passed item sizes ≡ length sizes = passed-all item sizes (checked-same item sizes good e) in
       let whole : take (passed item sizes) overs ≡ overs =
       take-all (passed item sizes) overs (omega (arith, all, lines-length J start ledger (parts Size errors), lines-length J start ledger (parts Overstated errors))) in
-      ap (λ (ls : List Line). take (length own) (keptFrom ls 0 amounts)) whole ∙ rw zero-add at (kept-front overs 0 amounts (omega arith)) ∙ sym (sort-is own)
+      ap (λ (ls : List Line). keptFrom ls 0 amounts) whole
+
+  pub kept-amounts : (good : List Line) → checkedLines item J start ledger (parts Size errors) ≡ accepted good → length own ≤ length amounts →
+      take (length own) (keptOf item J start ledger errors amounts) ≡ sortDown own
+  kept-amounts good e room =
+      ap (take (length own)) (kept-whole good e)
+      ∙ rw zero-add at (kept-front (linesWith Overstated J start ledger errors) 0 amounts (omega arith)) ∙ sym (sort-is own)

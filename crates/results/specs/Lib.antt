@@ -1,5 +1,6 @@
 pub mod Seen
 pub mod Results
+pub mod Walked
 pub mod Strata
 pub mod Season
 pub mod Control

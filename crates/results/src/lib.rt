@@ -2,6 +2,7 @@
 // figures, 0 where it is refused.
 use season::Tally;
 
+pub mod board; // board.rt: answers of the blackboard method
 pub mod by_strata; // by_strata.rt: answers of the operations by strata
 pub mod control; // control.rt: answers of the attribute job aid
 pub mod file; // file.rt: answers of the working file and its sheet

@@ -18,9 +18,9 @@ use Rattle.sheet.specs.declared.SheetAnswer.the-variants.{Printed, Refus
 use Rattle.steps.specs.declared.StepsAnswer.{StepsAnswer}
 use Rattle.steps.specs.declared.StepsAnswer.the-variants as steps
 use Rattle.steps.specs.Steps.{stepsSays, stepsOf, StepsPromise, Shown}
-use Rattle.steps.proofs.Accepted.{steps-shown}
+use Rattle.steps.proofs.Accepted.{steps-shown, steps-early}
 use Rattle.sheet.specs.Lines.{answersText, refusedLine}
-use Rattle.sheet.specs.Sheet.{textBy, stepsText, sheetText, longestText, sheetOf, SheetPromise}
+use Rattle.sheet.specs.Sheet.{textBy, stepsText, deskText, longestText, sheetOf, SheetPromise}
 
 -- a text that was written is the one that is asked for, and no longer than that may be
 pub as-bounded : {o o′ x y : List ℕ} {a a′ most more : ℕ} → y ≡ x → most ≤ more → Page.Wrote o a x o′ a′ × (length x ≤ most) → Page.Wrote o a y o′ a′ × (length y ≤ more)
@@ -43,25 +43,28 @@ module _ (plan : Plan) (words ledger : List ℕ) (errors : List ℤ) {r : StepsA
       Page.Wrote o a (stepsText plan words ledger errors) o′ a′ × (length (stepsText plan words ledger errors) ≤ 464 + 90 * length ledger)
   content-answered is p w = as-bounded (steps-text plan words ledger errors (sym (ap stepsSays is) ∙ p .answer)) (omega arith) w
 
-  pub content-shown : {answers : Answers} → r ≡ steps.Answered answers → StepsPromise plan words ledger errors r → Shown 0 (answers .figures .interval) ledger errors
-  content-shown is p = steps-shown plan words ledger errors _ (sym (ap stepsSays is) ∙ p .answer)
+  pub content-shown : {answers : Answers} → r ≡ steps.Answered answers → StepsPromise plan words ledger errors r →
+      Shown 0 (answers .figures .interval) ledger errors × (answers .chosen .start ≤ answers .figures .interval)
+  content-shown is p =
+      let e = sym (ap stepsSays is) ∙ p .answer in
+      (steps-shown plan words ledger errors _ e, steps-early plan words ledger errors _ e)
 
-module _ (file page : List ℕ) where
-  short : length page < longestText → sheetOf file (length page) ≡ refused 18 longestText
+module _ (input page : List ℕ) where
+  short : length page < longestText → sheetOf input (length page) ≡ refused 18 longestText
   unfolding sheetOf
   short h = simp (lt-ltb _ _ h)
 
-  long : longestText ≤ length page → sheetOf file (length page) ≡ accepted (length (sheetText file))
+  long : longestText ≤ length page → sheetOf input (length page) ≡ accepted (length (deskText input))
   unfolding sheetOf
   long h = simp (le-ltb _ _ h)
 
-  pub page-short : length page < longestText → SheetPromise file page (Refused (RoomTooShort longestText)) page
+  pub page-short : length page < longestText → SheetPromise input page (Refused (RoomTooShort longestText)) page
   page-short h =
-      record { answer = sym (short h); page-left = sym (ap (left (λ bytes. sheetText file ++ drop bytes page) page) (short h)) }
+      record { answer = sym (short h); page-left = sym (ap (left (λ bytes. deskText input ++ drop bytes page) page) (short h)) }
 
-  pub page-long : longestText ≤ length page → (r : ℕ) (page′ : List ℕ) → Page.Printed (sheetText file) page r page′ → SheetPromise file page (Printed r) page′
+  pub page-long : longestText ≤ length page → (r : ℕ) (page′ : List ℕ) → Page.Printed (deskText input) page r page′ → SheetPromise input page (Printed r) page′
   page-long h r page′ p =
       record {
         answer = ap accepted (p .counted) ∙ sym (long h);
-        page-left = p .whole ∙ sym (ap (left (λ bytes. sheetText file ++ drop bytes page) page) (long h));
+        page-left = p .whole ∙ sym (ap (left (λ bytes. deskText input ++ drop bytes page) page) (long h));
       }

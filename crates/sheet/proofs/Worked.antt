@@ -32,7 +32,7 @@ use Rattle.pen.specs.Letters.{letters}
 use Rattle.pen.specs.Text.{decimalIn, decimal, sizedText, signedText}
 use Rattle.steps.specs.Steps.{judgedFrom, startedFrom, splitFrom, sizedFrom, totalledFrom, stepsOf}
 use Rattle.sheet.specs.Lines.{itemsText, ledgerText, answersText}
-use Rattle.sheet.specs.Sheet.{stepsText, sheetText}
+use Rattle.sheet.specs.Sheet.{stepsText, sheetText, fileOf, deskText}
 
 -- the file of a plan and records
 abbrev file : ℕ → ℕ → ℕ → List FileRecord → List ℕ
@@ -109,3 +109,13 @@ pub no-errors : (sheetText (file 90 100 0 (Word 25 ∷ claims (E 0 7 ∷ E 1 31 
     × (sheetText (file 90 100 0 (Word 25 ∷ claims (U 1 7 ∷ E 2 41 ∷ []))) ≡ letters "refused 15 1\n")
 unfolding sheetText decode run recordOf fits grow littleEndian stepsText stepsOf totalledFrom sizedFrom splitFrom startedFrom judgedFrom levelOf ledger.ledgerOf ledger.runningTotal ledger.runningFrom size.sizeOf size.sizeAt factors.rf factors.stepOf table divUp splitOf figuresFrom rounds startOf tried firstFrom judgeOf judgedLedger judgedFigures judgedAt judgedLines judgedWith concluded verdictOf figuresFor checkedLines checkedFrom checkedLine linesOf linesFrom covers points amount total amountsOf precisionOf hundredths roundUp sortDown sortOnto insertDown answersText ledgerText itemsText decimal decimalIn signedText sizedText parts partOf overstated understated sizeOf isUnder signedOf mostSize
 no-errors = (refl, refl, refl, refl)
+
+-- after the byte of the blackboard method: the byte alone, and a second one, which is the file's
+pub board-bytes : (deskText (0x42 ∷ []) ≡ letters "refused 17 0\n") × (deskText (0x42 ∷ 0x42 ∷ file 90 100 0 []) ≡ letters "refused 17 0\n")
+unfolding deskText fileOf sheetText decode run recordOf fits grow littleEndian decimal decimalIn
+board-bytes = (refl, refl)
+
+-- and a record that is cut short: the place counts from the file's first byte
+pub board-place : deskText (0x42 ∷ (file 90 100 0 (Word 25 ∷ []) ++ (0x4C ∷ []))) ≡ letters "refused 17 27\n"
+unfolding deskText fileOf sheetText decode run recordOf fits grow littleEndian decimal decimalIn
+board-place = refl

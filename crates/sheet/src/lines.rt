@@ -1,4 +1,5 @@
 // The lines of the sheet, each written from the pen's place on.
+use crate::walked::lines_by;
 use judge::Judgement;
 use judge::Verdict;
 use pen::Pen;
@@ -82,7 +83,7 @@ fn entry_line(
 }
 
 // A drawn or full line; any other has none.
-fn item_line(pen: Pen, page: &mut [u8], item: u64, under: bool, line: Line) -> Pen
+pub fn item_line(pen: Pen, page: &mut [u8], item: u64, under: bool, line: Line) -> Pen
     ensures { λ r. ⌜ Wrote (now (page .entry)) (pen .at) (itemText item under line) (now (page .exit)) (r .at) ⌝ }
 {
     let state = line.state;
@@ -209,21 +210,22 @@ fn closing_text(pen: Pen, page: &mut [u8], judgement: Judgement) -> Pen
     judge_line(projected, page, judgement)
 }
 
-// The whole sheet of what the steps have answered.
+// The whole sheet of what the steps have answered, by either method.
 pub fn answers_text(
     pen: Pen,
     page: &mut [u8],
+    board: bool,
     answers: Answers,
     ledger: &[u64],
     errors: &[i64],
 ) -> Pen
-    requires { ⌜ Shown 0 (answers .figures .interval) (now ledger) (now errors) ⌝ }
+    requires { ⌜ Shown 0 (answers .figures .interval) (now ledger) (now errors) × (answers .chosen .start ≤ answers .figures .interval) ⌝ }
     ensures { λ r. ⌜ Wrote (now (page .entry)) (pen .at) (answersText (now (ledger .entry)) (now (errors .entry)) answers) (now (page .exit)) (r .at) ⌝ }
     ensures { λ r. ⌜ length (answersText (now (ledger .entry)) (now (errors .entry)) answers) ≤ 464 + 90 * length (now (ledger .entry)) ⌝ }
 {
     let interval = answers.figures.interval;
     let start = Cent(answers.chosen.start);
     let opened = opening_text(pen, page, answers);
-    let listed = ledger_lines(opened, page, Item(0), ledger, errors, interval, start);
+    let listed = lines_by(opened, page, board, ledger, errors, interval, start);
     closing_text(listed, page, answers.judgement)
 }

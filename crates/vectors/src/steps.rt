@@ -33,6 +33,8 @@ fn answer(case: Case, ledger: &[u64], errors: &[i64], words: &[u64], room: &mut 
         ),
         14 => calls::attribute_size(case.level, (case.first % 256) as u8),
         15 => calls::attribute_bound(case.level, (case.first % 256) as u8, case.second),
+        22 => calls::board::board_draw(ledger, case.first, case.second, room),
+        23 => calls::board::board_project(ledger, case.first, case.second, errors),
         _ => calls::size(case.level, case.first, case.second, case.third),
     }
 }

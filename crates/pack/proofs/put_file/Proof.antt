@@ -14,6 +14,9 @@ write-requires c κs = search needs
 enum-known-length : tie.Need-enum-known-length
 enum-known-length c = search needs
 
+put-method-requires : tie.Need-put-method-requires
+put-method-requires c κs = search needs
+
 array-share-prefix-file : tie.Need-array-share-prefix-file
 array-share-prefix-file c = search (needs, written-fits)
 
@@ -45,6 +48,7 @@ put-file-spec =
     slice-aggregate-write
     write-requires
     enum-known-length
+    put-method-requires
     array-share-prefix-file
     slice-aggregate-write-all
     write-all-requires

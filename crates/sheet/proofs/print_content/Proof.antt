@@ -19,6 +19,6 @@ print-content-spec =
     tie.close
     (tie.spec
     (λ c κs. search needs) (λ c. search needs) (λ c κs. search needs) (λ c. search needs)
-    (λ c κs. search content-shown)
+    (λ c κs. let known = c .before .before in content-shown _ _ _ _ (known .answers .given .1) (known .before .before .steps .ensures))
     (λ c. search needs) returns
     (λ c. search needs) returns-2)

@@ -5,11 +5,11 @@ use borrow.Author.Needs.{needs}
 use Rattle.sheet.proofs.sheet.Statement.{statement}
 use Rattle.sheet.proofs.sheet.Tie as tie
 
-print-file-requires : tie.Need-print-file-requires
-print-file-requires c κs = search needs
+print-input-requires : tie.Need-print-input-requires
+print-input-requires c κs = search needs
 
 returns : tie.Need-returns
-returns c = printed _ _ _ _ (omega (arith, c .print-file .ensures .1)) (c .print-file .ensures .0)
+returns c = printed _ _ _ _ (omega (arith, c .print-input .ensures .1)) (c .print-input .ensures .0)
 
 pub sheet-spec : {M : Type 1} → statement M
-sheet-spec = tie.close (tie.spec print-file-requires returns)
+sheet-spec = tie.close (tie.spec print-input-requires returns)

@@ -9,16 +9,16 @@ use Rattle.sheet.proofs.sheet_in.Tie as tie
 returns : tie.Need-returns
 returns c = page-short _ _ (omega arith)
 
-print-file-requires : tie.Need-print-file-requires
-print-file-requires c κs = search needs
+print-input-requires : tie.Need-print-input-requires
+print-input-requires c κs = search needs
 
 same-length : tie.Need-same-length
 same-length c = search needs
 
 returns-2 : tie.Need-returns-2
 returns-2 c =
-    let text = c .before .before .print-file .ensures in
+    let text = c .before .before .print-input .ensures in
     page-long _ _ (omega arith) _ _ (printed _ _ _ _ (omega (arith, text .1)) (text .0))
 
 pub sheet-in-spec : {M : Type 1} → statement M
-sheet-in-spec = tie.close (tie.spec returns print-file-requires same-length returns-2)
+sheet-in-spec = tie.close (tie.spec returns print-input-requires same-length returns-2)

@@ -11,7 +11,7 @@ small c = search needs
 returns : tie.Need-returns
 returns c =
     let first = c .before .before .before .before .before .before .before .before .before .before .before .before .before .before in
-    ((search answers-written), answers-short _ _ _ (small first) (first .pre))
+    ((search answers-written), answers-short _ _ _ (small first) (first .pre .0))
 
 pub answers-text-spec : {M : Type 1} → statement M
 answers-text-spec =

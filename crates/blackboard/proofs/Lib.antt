@@ -1,0 +1,9 @@
+pub mod Counting
+pub mod Drawn
+pub mod Walking
+pub mod Standing
+pub mod OneLine
+pub mod Adding
+pub mod Answer
+pub mod Once
+pub mod Worked

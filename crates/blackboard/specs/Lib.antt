@@ -1,0 +1,4 @@
+pub mod Board
+pub mod Draw
+pub mod Project
+pub mod Steps

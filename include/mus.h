@@ -5,7 +5,8 @@
  * 0 where the refusal names none), every figure is 0 but those of a tally, which is handed back as it was, and every lent buffer keeps
  * its former content, but that a batch of findings (mus_post_all, mus_team_post_all) leaves the pairs before the refused one posted. Where
  * several refusals apply, the first is given in this order: 24, 27, 1, 22, 30, 2, 13; then 3 and 4 line by line; then 5 to 8, 23, 11; then 14
- * and 15 line by line; then 16; then 28. Of a control test: 1, 25, 26. Of findings: 24, 13; then 20, 14 and 15 pair by pair.
+ * and 15 line by line; then 16; then 28. Of a control test: 1, 25, 26. Of findings: 24, 13; then 20, 14 and 15 pair by pair. Of
+ * a salvage: 29, 18.
  *
  * Money and numbers of draws are 64-bit, money in whole cents. Lines are numbered from 0. An error has a sign: above 0 the line is
  * overstated, too much was claimed; below 0 it is understated, too little; 0 is no error. A list is a pointer and a number of entries;
@@ -41,8 +42,9 @@
  *     mus_tally_add           1,752
  *     mus_attribute_size         80
  *     mus_attribute_bound       384
- *     mus_read                  288
+ *     mus_read                  392
  *     mus_write                 136
+ *     mus_salvage               280
  *     mus_sheet              35,712   35,344 + 48 r        39,664
  *
  * It was measured on the library as `rt staticlib mus` makes it (docs/PERFORMANCE.md). */
@@ -106,6 +108,7 @@ enum mus_refusal {
     MUS_TOO_MANY_EXCEPTIONS = 26,   /* a control test has more than 10 exceptions */
     MUS_TOO_MANY_JUDGEMENTS = 27,   /* the tally holds MUS_MOST_JUDGEMENTS already, refused ones included */
     MUS_SUM_TOO_LARGE = 28,         /* a sum of the tally would pass 64 bits */
+    MUS_NO_WHOLE_PLAN = 29,         /* no whole record P stands first in a file that is salvaged */
     MUS_COUNTS_DO_NOT_ADD = 30      /* the counts of the strata do not add to the ledger's lines */
 };
 
@@ -243,6 +246,19 @@ struct mus_write_result {
     uint64_t length; /* how many bytes were written */
 };
 
+/* old is 1 where a whole old Z stands directly after the run, right or wrong, and then the last two figures are its own; else all three are 0. */
+struct mus_salvage_result {
+    uint64_t refusal, place;
+    uint64_t length;    /* the length of the mended file */
+    uint64_t kept;      /* how many records were kept: P and each of the run, Z apart */
+    uint64_t dropped;   /* how many bytes after the run were dropped, the old Z apart */
+    uint64_t lines;     /* the new count of L */
+    uint64_t sum;       /* their sum */
+    uint64_t old;       /* whether there is an old Z */
+    uint64_t old_lines; /* its count */
+    uint64_t old_sum;   /* its sum */
+};
+
 struct mus_sheet_result {
     uint64_t refusal, place;
     uint64_t length; /* how many bytes were printed */
@@ -355,6 +371,12 @@ struct mus_read_result mus_read(const uint8_t *file, size_t file_length, uint64_
 /* Writes the working file of a content. errors has an entry for each value: one above 0 becomes a record E, one below 0 a record U.
  * MUS_LONGEST_FILE bytes are room for any file, and bytes past the file stay as they were. Refusals 13, 19, 18. */
 struct mus_write_result mus_write(uint8_t level, uint64_t te, uint64_t ae, const uint64_t *words, size_t words_length, const uint64_t *values, size_t values_length, const int64_t *errors, size_t errors_length, uint8_t *file, size_t file_length);
+
+/* Salvages a working file that was cut on transfer, or that carries a Z made before its last lines: the longest run of whole records from the start
+ * that the rules of a file allow goes to out, with a right Z after it. A legal file comes out with the same bytes, and the result always
+ * reads. file may have any length; MUS_LONGEST_FILE bytes of out are room for every result, and bytes past it stay as they were. Refusals
+ * 29, 18 with the bytes needed. */
+struct mus_salvage_result mus_salvage(const uint8_t *file, size_t file_length, uint8_t *out, size_t out_length);
 
 /* Prints the sheet of a working file: the desk program's whole text, or its line "refused", number and place where the file or a step
  * is refused. Where the input begins with the byte 0x42 the file is what follows it, and the draw and the projection go by the blackboard method: the

@@ -1,6 +1,9 @@
-"""What tools/compare-desk, tools/compare-programmes and tools/compare-seasons share: random ledgers with errors, and the comparing."""
+"""What tools/compare-desk, tools/compare-programmes, tools/compare-seasons and tools/compare-salvages share: random ledgers with errors, and the comparing."""
 
 import collections
+import importlib.machinery
+import importlib.util
+import pathlib
 import subprocess
 import sys
 
@@ -48,6 +51,14 @@ def some_words(r):
 # ---- Comparing ----
 
 
+def script(name):
+    """A script of this folder as a module."""
+    loader = importlib.machinery.SourceFileLoader(name.replace("-", "_"), str(pathlib.Path(__file__).resolve().parent / name))
+    module = importlib.util.module_from_spec(importlib.util.spec_from_loader(loader.name, loader))
+    loader.exec_module(module)
+    return module
+
+
 def said_by(command, given):
     """What a program writes to standard output, or to standard error where that is nothing."""
     found = subprocess.run(command, input=given, capture_output=True)
@@ -60,14 +71,14 @@ def show_difference(number, seed, expected, found):
     print(found.decode(errors="replace"))
 
 
-def compare(count, seed, command, make, expected_of, kind_of):
+def compare(count, seed, command, make, expected_of, kind_of, said=said_by):
     """How many files differ; without a command none is run."""
     kinds, different = collections.Counter(), 0
     for number in range(count):
         file = make(number, seed)
         expected = expected_of(file)
         kinds[kind_of(expected)] += 1
-        found = said_by(command, file) if command else expected
+        found = said(command, file) if command else expected
         if found != expected:
             different += 1
             show_difference(number, seed, expected, found)

@@ -5,7 +5,7 @@ It is written from the rules alone, in exact whole numbers, to be read beside th
 proved program, so that the two can be held against each other. The operations by strata stand in tools/reference_strata.py, the
 program for them in tools/reference_programmes.py, the tally of a season in tools/reference_season.py, the attribute job aid in tools/reference_attributes.py,
 findings by the batch in tools/reference_findings.py, two teams on one ledger in tools/reference_teams.py,
-the blackboard method in tools/reference_board.py.
+the blackboard method in tools/reference_board.py, the salvage of a working file in tools/reference_salvage.py.
 
 An operation takes its inputs and its lent buffers (lists of numbers, or bytearrays), and returns its answer or a
 Refusal (number, place). It stores into a lent buffer only after its last check: a refused call leaves every buffer, but that a batch of findings
@@ -627,6 +627,7 @@ def main(arguments):
         import self_test_board
         import self_test_findings
         import self_test_programmes
+        import self_test_salvage
         import self_test_season
         import self_test_strata
         import self_test_teams
@@ -639,6 +640,7 @@ def main(arguments):
         self_test_findings.run()
         self_test_teams.run()
         self_test_board.run()
+        self_test_salvage.run()
     elif arguments == ["desk"]:
         sys.stdout.buffer.write(desk(sys.stdin.buffer.read()))
     elif arguments == ["factors"]:

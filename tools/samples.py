@@ -1,5 +1,5 @@
 #!/usr/bin/env python3
-"""The samples: ledgers as text, and what the desk program or the program for strata says to each.
+"""The samples: ledgers as text, files, and what the programs say to each.
 
     python3 tools/samples.py write                  makes samples/NAME.out for every sample, by the reference
     python3 tools/samples.py check                  compares the stored ones, and the figures told in large-grants.txt
@@ -8,10 +8,12 @@
     python3 tools/samples.py make COMMAND ..        runs a program that makes the working file of a text, and compares
     python3 tools/samples.py programmes COMMAND ..  runs a program for strata on every text of a ledger in strata and compares
     python3 tools/samples.py seasons COMMAND ..     runs a program for a season on every row of files and compares
+    python3 tools/samples.py salvages COMMAND ..    runs a program that mends files on every file to be mended and compares
 
 A sample NAME.txt is a text in the notation (tools/notation.py), of a working file, or of a ledger in strata where its first record is N. A sample
 NAME.hex holds the bytes of a working file themselves, for files that no text can give. A sample NAME.row names samples, one a line, whose working
-files stand in a row.
+files stand in a row. A sample salvage-NAME.hex is a file to be mended: its .out has the line of what was done as a comment, and then the mended file
+in hex, a record a line, so that it is read as a .hex is.
 """
 
 import pathlib
@@ -21,6 +23,7 @@ import sys
 import notation
 import reference
 import reference_programmes
+import reference_salvage
 import reference_season
 
 SAMPLES = pathlib.Path(__file__).resolve().parent.parent / "samples"
@@ -67,8 +70,29 @@ def is_row(path):
     return path.suffix == ".row"
 
 
+def is_to_mend(path):
+    return path.name.startswith("salvage-")
+
+
 def working_files():
-    return [path for path in every_sample() if not is_in_strata(path) and not is_row(path)]
+    return [path for path in every_sample() if not is_in_strata(path) and not is_row(path) and not is_to_mend(path)]
+
+
+def files_to_mend():
+    return list(filter(is_to_mend, every_sample()))
+
+
+def hex_lines(file):
+    """The records of a legal file, one a line."""
+    offset = 0
+    while offset < len(file):
+        end = offset + 1 + reference.BODY[file[offset]]
+        yield file[offset:end].hex() + "\n"
+        offset = end
+
+
+def mended_text(mended, said):
+    return ("# " + said + "".join(hex_lines(mended))).encode()
 
 
 def rows_of_files():
@@ -83,6 +107,8 @@ def sheet_of(path):
     """What is said to a sample, by the reference."""
     if is_row(path):
         return reference_season.overview(row_of(path))
+    if is_to_mend(path):
+        return mended_text(*reference_salvage.salvaged(file_of(path)))
     if not is_in_strata(path):
         return reference.desk(file_of(path))
     out, err = reference_programmes.answer_to(path.read_bytes())
@@ -187,7 +213,15 @@ def seasons(command):
     return rows_of_files()
 
 
-COMMANDS = {"run": run, "make": make, "programmes": programmes, "seasons": seasons}
+def salvages(command):
+    for path in files_to_mend():
+        found = subprocess.run(command, input=file_of(path), capture_output=True)
+        if mended_text(found.stdout, found.stderr.decode()) != path.with_suffix(".out").read_bytes():
+            sys.exit(f"samples/{path.name}: found {found.stderr.decode(errors='replace')}{found.stdout.hex()}")
+    return files_to_mend()
+
+
+COMMANDS = {"run": run, "make": make, "programmes": programmes, "seasons": seasons, "salvages": salvages}
 
 
 def main(arguments):

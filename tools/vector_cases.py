@@ -12,6 +12,7 @@ from vector_lists import MOST_ERROR, MOST_WORD, Generated, equal, listed
 from vector_attributes import attribute_cases
 from vector_board import board_cases
 from vector_findings import findings_cases
+from vector_salvage import salvage_cases
 from vector_season import season_cases
 from vector_signed import signed_cases
 from vector_strata import strata_cases
@@ -201,6 +202,7 @@ def every_case():
     ways += [verdict_cases(), signed_cases(Seeded(23)), kind_cases(Seeded(24))]
     ways += [strata_cases(Seeded(25))] if WITH_STRATA else []
     ways += [season_cases(Seeded(26)), attribute_cases(), findings_cases(Seeded(27)), team_cases(Seeded(28)), board_cases(Seeded(29))]
+    ways += [salvage_cases(Seeded(30))]
     for way in ways:
         for case in way:
             if not hasattr(case, "ledger") or case.ledger.count <= LARGEST_LEDGER:

@@ -495,6 +495,7 @@ int main(int argc, char **argv)
     findings_cases();
     team_cases();
     board_cases();
+    salvage_cases();
 #ifndef WITHOUT_SHEET
     sheet_cases();
     board_sheet_cases();

@@ -28,6 +28,9 @@ void team_cases(void);
 /* The blackboard method: worked cases, each refusal, and both methods at every start. */
 void board_cases(void);
 
+/* The salvage of a working file: cut, with an old Z, each refusal, and what a refused call leaves. */
+void salvage_cases(void);
+
 /* Stored cases of these operations, for run_vectors. */
 void strata_plan_case(void);
 void strata_draw_case(void);
@@ -41,6 +44,7 @@ void team_post_case(void);
 void team_post_all_case(void);
 void board_draw_case(void);
 void board_project_case(void);
+void salvage_case(void);
 
 /* Runs each case of one file through the C interface and compares its line with the other file's: docs/VECTORS.md. */
 void run_vectors(const char *cases, const char *answers);

@@ -99,7 +99,7 @@ void mark_room(void)
     latest_room = room_length;
 }
 
-/* What every case has, but for a read's file. */
+/* What every case has, but for the file of a read or a salvage. */
 static void fields(void)
 {
     operation = number(1);

@@ -127,11 +127,12 @@ static void write_case(void)
     say_bytes(bytes, room_length);
 }
 
+/* By an operation's number; 16 and 17 are of none. */
 static void run_case(uint64_t place, FILE *answers)
 {
     static void (*const operations[])(void) = {size_case, split_case, start_case, draw_case, project_case, judge_case, read_case, write_case, lines_case,
         strata_plan_case, strata_draw_case, strata_project_case, tally_case, attribute_size_case, attribute_bound_case,
-        post_case, post_all_case, team_split_case, team_draw_case, team_post_case, team_post_all_case, board_draw_case, board_project_case};
+        post_case, post_all_case, team_split_case, team_draw_case, team_post_case, team_post_all_case, board_draw_case, board_project_case, salvage_case};
     char what[40];
     say_place(place);
     if (operation >= 1 && operation <= sizeof operations / sizeof operations[0] && operations[operation - 1] != NULL) operations[operation - 1]();

@@ -10,6 +10,7 @@
 #include "inputs.h"
 
 static volatile uint64_t kept; /* so that no call is left out */
+static uint8_t mended[MUS_LONGEST_FILE];
 
 static void call_judging(void) { kept = mus_split(ledger, lines, 0, marks, lines).refusal; }
 static void call_split(void) { kept = mus_split(ledger, lines, draws, marks, lines).interval; }
@@ -23,6 +24,7 @@ static void call_size(void) { kept = mus_size(95, 1000000, 20000, 4000).draws; }
 static void call_start(void) { kept = mus_start(40, words, 64).start; }
 static void call_read(void) { kept = mus_read(file, file_length, words_room, 64, values_room, 2048, errors_room, 2048).lines; }
 static void call_write(void) { kept = mus_write(95, file_te, file_ae, words, file_words, ledger, lines, errors, lines, file, sizeof file).length; }
+static void call_salvage(void) { kept = mus_salvage(file, file_length, mended, sizeof mended).kept; }
 static void call_strata_plan(void) { kept = mus_strata_plan(ledger, lines, counts, strata, draws).strata; }
 static void call_strata_draw(void) { kept = mus_strata_draw(ledger, lines, counts, strata, draws, starts, strata, marks, lines).drawn; }
 static void call_strata_project(void) { kept = mus_strata_project(ledger, lines, counts, strata, draws, starts, strata, errors, lines).over; }
@@ -59,6 +61,7 @@ static void set_project_wide(void) { wide_ledger(); find_errors(20); }
 static void set_walk(void) { plain_ledger(); draws = 20; find_errors(20); turn_errors(); }
 static void set_most_errors(void) { plain_ledger(); find_errors(MUS_MOST_ERRORS); }
 static void set_read(void) { longest_content(); call_write(); }
+static void set_salvage(void) { set_read(); file[file_length - 1] ^= 1; } /* the sum of its Z is wrong */
 static void set_strata(void) { plain_ledger(); in_strata(MUS_MOST_STRATA); strata_errors(); }
 static void set_strata_widest(void) { widest_ledger(); in_strata(1); }
 
@@ -172,6 +175,7 @@ static const struct row {
     {"attribute-bound", set_attributes, call_attribute_bound},
     {"read", set_read, call_read},
     {"write", longest_content, call_write},
+    {"salvage", set_salvage, call_salvage},
 #ifndef WITHOUT_SHEET
     {"sheet", judged_content, call_sheet},
     {"sheet-deep", set_deep_file, call_sheet},

@@ -1,4 +1,4 @@
-/* The working file in plain C: its reader and its writer. */
+/* The working file in plain C: its reader, its writer, and the salvage of one that was cut. */
 #include "plain.h"
 
 static uint64_t four_at(const uint8_t *at)
@@ -123,5 +123,66 @@ struct mus_write_result mus_write(uint8_t level, uint64_t te, uint64_t ae, const
     *to++ = 'Z';
     put_eight(put_four(to, values_length), sum);
     r.length = needed;
+    return r;
+}
+
+/* What a run has counted, and where it ends. */
+struct run {
+    uint64_t words, lines, sum, kept;
+    size_t at;
+};
+
+/* The records from P on that are allowed, up to Z or to one that is not. */
+static struct run run_of(const uint8_t *file, size_t length)
+{
+    uint64_t words = 0, lines = 0, sum = 0, next_line = 0, kept = 1;
+    size_t at = 18;
+    for (;; kept++) {
+        size_t left = length - at;
+        if (left < 9) break;
+        uint8_t kind = file[at];
+        if (kind == 'W') {
+            if (lines != 0 || words >= MUS_MOST_WORDS) break;
+            words++;
+            at += 9;
+            continue;
+        }
+        if (kind == 'L') {
+            uint64_t value = eight_at(file + at + 1);
+            if (next_line != 0 || lines >= MUS_MOST_FILE_LINES || value > UINT64_MAX - sum) break;
+            lines++;
+            sum += value;
+            at += 9;
+            continue;
+        }
+        if (left < 13 || (kind != 'E' && kind != 'U')) break;
+        uint64_t size = eight_at(file + at + 5);
+        if (size == 0 || size > (uint64_t) INT64_MAX + (kind == 'U') || !take_error(0, 0, four_at(file + at + 1), lines, &next_line, NULL)) break;
+        at += 13;
+    }
+    struct run run = {words, lines, sum, kept, at};
+    return run;
+}
+
+struct mus_salvage_result mus_salvage(const uint8_t *file, size_t length, uint8_t *out, size_t out_length)
+{
+    struct mus_salvage_result r = {0, 0, 0, 0, 0, 0, 0, 0, 0, 0};
+    if (length < 18 || file[0] != 'P') REFUSE(r, 29, 0);
+    struct run run = run_of(file, length);
+    size_t left = length - run.at;
+    if (out_length < run.at + 13) REFUSE(r, 18, run.at + 13);
+    if (left >= 13 && file[run.at] == 'Z') {
+        r.old = 1;
+        r.old_lines = four_at(file + run.at + 1);
+        r.old_sum = eight_at(file + run.at + 5);
+    }
+    for (size_t i = 0; i < run.at; i++) out[i] = file[i];
+    out[run.at] = 'Z';
+    put_eight(put_four(out + run.at + 1, run.lines), run.sum);
+    r.length = run.at + 13;
+    r.kept = run.kept;
+    r.dropped = left - 13 * r.old;
+    r.lines = run.lines;
+    r.sum = run.sum;
     return r;
 }

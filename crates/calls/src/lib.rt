@@ -11,6 +11,7 @@ use results::TallyResult;
 use season::Tally;
 
 pub mod board; // board.rt: the blackboard method
+pub mod file; // file.rt: the working file and its salvage
 
 // An answer of figures alone.
 fn answer(refusal: u64, place: u64, figures: [u64; 5], count: usize) -> Answer {
@@ -218,23 +219,4 @@ pub fn team_post_all(
 ) -> Answer {
     let posted = teams::team_post_all(team, ledger, marks, errors, lines, found);
     of_post(results::posting::of_post(posted))
-}
-
-pub fn read(file: &[u8], words: &mut [u64], values: &mut [u64], errors: &mut [i64]) -> Answer {
-    let r = results::file::of_read(reader::read(file, words, values, errors));
-    let figures = [r.level, r.te, r.ae, r.words, r.lines];
-    answer(r.refusal, r.place, figures, 5)
-}
-
-pub fn write(
-    level: u8,
-    te: u64,
-    ae: u64,
-    words: &[u64],
-    values: &[u64],
-    errors: &[i64],
-    file: &mut [u8],
-) -> Answer {
-    let r = results::file::of_write(writer::write(level, te, ae, words, values, errors, file));
-    answer(r.refusal, r.place, [r.length, 0, 0, 0, 0], 1)
 }

@@ -40,12 +40,13 @@ use Rattle.stratified.specs.Projection.{ProjectStrataPromise}
 use Rattle.workfile.specs.declared.Plan.{Plan}
 use Rattle.workfile.specs.Promises.{ReadPromise, WritePromise}
 use Rattle.workfile.proofs.Promises.{read-once, write-once}
-use Rattle.roundtrip.specs.RoundTrip.{WriteThenRead, ReadThenWrite}
+use Rattle.roundtrip.specs.RoundTrip.{WriteThenRead}
 use Rattle.roundtrip.proofs.Trips.{write-read-once, read-write-once}
 use Rattle.pen.proofs.Writing.{printed-once}
 use Rattle.steps.proofs.Laws.{steps-once}
 use Rattle.sheet.specs.Sheet.{SheetPromise}
 use Rattle.sheet.proofs.OneText.{sheet-once}
+use Rattle.salvaging.proofs.Laws.{salvage-once}
 use Rattle.notation.proofs.Laws.{parsed-once}
 use Rattle.starts.specs.Starts.{StartsPromise}
 use Rattle.reply.proofs.Laws.{reply-once}
@@ -155,9 +156,6 @@ written-then-read-once : (plan : Plan) (words values : List ℕ) (errors : List 
     → OneWith (λ r (b : List ℕ × Three). WriteThenRead plan words values errors file words-before values-before errors-before r (b .0) (b .1 .0) (b .1 .1) (b .1 .2))
 written-then-read-once _ _ _ _ _ _ _ _ _ _ _ _ p q = let same = write-read-once p q in (same .0, λ i. (same .1 i, (same .2 i, same .3 i, same .4 i)))
 
-read-then-written-once : (file again : List ℕ) → OneWith (ReadThenWrite file again)
-read-then-written-once _ _ _ _ _ _ p q = read-write-once p q
-
 sheets-once : (input page : List ℕ) → OneWith (SheetPromise input page)
 sheets-once _ _ _ _ _ _ p q = sheet-once p q
 
@@ -211,7 +209,9 @@ no-freedom =
       read = reads-once;
       write = writes-once;
       write-then-read = written-then-read-once;
-      read-then-write = read-then-written-once;
+      read-then-write = λ _ _ _ _ _ _ p q. read-write-once p q;
+      salvage = λ _ _ _ _ _ _ p q. salvage-once p q;
+      salvage-report = λ _ _ _ _ _ _ p q. printed-once p q;
       sheet = λ _ _ _ _ _ _ p q. printed-once p q;
       sheet-in = sheets-once;
       parse = λ _ _ _ _ _ _ _ _ _ p q. let same = parsed-once p q in (same .answers, λ i. (same .words i, same .values i, same .errors i));
@@ -243,5 +243,6 @@ no-freedom =
       mus-team-post-all = λ _ _ marks _ _ _. sees-with (λ _ _ _ _ p q. team-post-all-once marks p q);
       mus-read = λ file words values errors. sees-with (reads-once file words values errors);
       mus-write = λ plan words values errors file. sees-with (writes-once plan words values errors file);
+      mus-salvage = λ _ _. sees-with (λ _ _ _ _ p q. salvage-once p q);
       mus-sheet = λ input page. sees-with (sheets-once input page);
     }

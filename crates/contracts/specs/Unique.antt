@@ -41,6 +41,9 @@ use Rattle.workfile.specs.declared.Plan.{Plan}
 use Rattle.workfile.specs.Promises.{readSays, writeSays, ReadPromise, WritePromise}
 use Rattle.roundtrip.specs.RoundTrip.{WriteThenRead, ReadThenWrite}
 use Rattle.pen.specs.Page.{Printed}
+use Rattle.salvaging.specs.declared.SalvageAnswer.{SalvageAnswer}
+use Rattle.salvaging.specs.Salvage.{salvageSays, SalvagePromise}
+use Rattle.report.specs.Report.{reportText}
 use Rattle.sheet.specs.Sheet.{deskText, sheetSays, SheetPromise}
 use Rattle.entry.specs.declared.Notation.{Notation}
 use Rattle.notation.specs.declared.Fault.{Fault}
@@ -54,6 +57,7 @@ use Rattle.results.specs.Results.{sizeSeen, splitSeen, startSeen, drawSeen, pro
 use Rattle.results.specs.Walked.{boardProjectSeen}
 use Rattle.results.specs.Control.{itemsSeen, boundSeen}
 use Rattle.results.specs.Findings.{postSeen}
+use Rattle.results.specs.Salvage.{salvageSeen}
 use Rattle.results.specs.Season.{entryFrom, tallySeen}
 use Rattle.results.specs.Strata.{strataPlanSeen, strataDrawSeen, strataProjectSeen}
 
@@ -110,12 +114,14 @@ pub record NoFreedom : Type 0 where
   pub team-draw : (team : ℕ) (ledger : List ℕ) (n start : ℕ) (marks : List ℕ) → OneWith (TeamDrawPromise team ledger n start marks)
   pub team-post : (team : ℕ) (ledger marks : List ℕ) (errors : List ℤ) (line : ℕ) (error : ℤ) → OneWith (TeamPostPromise team ledger marks errors line error)
   pub team-post-all : (team : ℕ) (ledger marks : List ℕ) (errors : List ℤ) (lines : List ℕ) (found : List ℤ) → OneWith (TeamPostAllPromise team ledger marks errors lines found)
-  -- the working file, its sheet, and the text
+  -- the working file, the salvage of one, its sheet, and the text
   pub read : (file words values : List ℕ) (errors : List ℤ) → OneWith (λ r (b : Three). ReadPromise file words values errors r (b .0) (b .1) (b .2))
   pub write : (plan : Plan) (words values : List ℕ) (errors : List ℤ) (file : List ℕ) → OneWith (WritePromise plan words values errors file)
   pub write-then-read : (plan : Plan) (words values : List ℕ) (errors : List ℤ) (file words-before values-before : List ℕ) (errors-before : List ℤ)
       → OneWith (λ r (b : List ℕ × Three). WriteThenRead plan words values errors file words-before values-before errors-before r (b .0) (b .1 .0) (b .1 .1) (b .1 .2))
   pub read-then-write : (file again : List ℕ) → OneWith (ReadThenWrite file again)
+  pub salvage : (file out : List ℕ) → OneWith (SalvagePromise file out)
+  pub salvage-report : (answer : SalvageAnswer) (page : List ℕ) → OneWith (Printed (reportText (salvageSays answer)) page)
   pub sheet : (input page : List ℕ) → OneWith (Printed (deskText input) page)
   pub sheet-in : (input page : List ℕ) → OneWith (SheetPromise input page)
   pub parse : (by : Notation) (text words values : List ℕ) (errors : List ℤ) → OneWith (λ r (b : Three). ParsePromise by text words values errors r (b .0) (b .1) (b .2))
@@ -161,4 +167,5 @@ pub record NoFreedom : Type 0 where
       → OneWith (λ r (b : Three). Sees readSeen readSays (λ a. ReadPromise file words values errors a (b .0) (b .1) (b .2)) r)
   pub mus-write : (plan : Plan) (words values : List ℕ) (errors : List ℤ) (file : List ℕ)
       → OneWith (λ r b. Sees writeSeen writeSays (λ a. WritePromise plan words values errors file a b) r)
+  pub mus-salvage : (file out : List ℕ) → OneWith (λ r b. Sees salvageSeen salvageSays (λ a. SalvagePromise file out a b) r)
   pub mus-sheet : (input page : List ℕ) → OneWith (λ r b. Sees sheetSeen sheetSays (λ a. SheetPromise input page a b) r)

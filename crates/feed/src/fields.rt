@@ -117,7 +117,7 @@ pub fn error(pattern: u64) -> i64 {
     signs::number_of(pattern)
 }
 
-// The file of a read, after the lists; `latest` is the room of bytes that was lent last.
+// The file of a read or a salvage, after the lists; `latest` is the room of bytes that was lent last.
 pub fn file<'a>(input: &[u8], latest: &[u8], buffer: &'a mut [u8]) -> &'a [u8] {
     bytes::file(input, lists::end(input, words_at(input)), latest, buffer)
 }

@@ -45,12 +45,13 @@ fn put_name(pen: Pen, page: &mut [u8], operation: u8) -> Pen {
         18..=21 => put_by_team(pen, page, operation),
         22 => pen.text(page, b" boarddraw"),
         23 => pen.text(page, b" boardproject"),
+        24 => pen.text(page, b" salvage"),
         _ => pen.text(page, b" is of no operation"),
     }
 }
 
 // The digests of what was lent: the room or the file, and each list; amounts, or counts and starts, or a batch of findings, stand in the
-// place of the words. And that of the strata's rows, or of a season's tallies.
+// place of the words, and a salvage's file in that of the ledger. And that of the strata's rows, of a season's tallies, or of an old Z.
 struct Digests {
     bytes: u64,
     ledger: u64,
@@ -65,7 +66,7 @@ fn put_lent(pen: Pen, page: &mut [u8], digests: &[u64]) -> Pen {
     lent.fields(page, digests)
 }
 
-// " rows" and the digest of the strata's rows, or of a season's tallies.
+// " rows" and the digest of the strata's rows, of a season's tallies, or of an old Z.
 fn put_rows(pen: Pen, page: &mut [u8], rows: u64) -> Pen {
     let told = pen.text(page, b" rows");
     told.fields(page, &[rows])
@@ -100,6 +101,10 @@ fn put_digests(pen: Pen, page: &mut [u8], operation: u8, d: Digests) -> Pen {
         13 => {
             let told = put_rows(pen, page, d.rows);
             put_lent(told, page, &[d.words])
+        }
+        24 => {
+            let told = put_rows(pen, page, d.rows);
+            put_lent(told, page, &[d.ledger, d.bytes])
         }
         _ => put_lent(pen, page, &[d.words, d.ledger, d.errors, d.bytes]),
     }
@@ -169,4 +174,16 @@ pub fn tell_rows(
         rows,
     };
     write(number, operation, answer, digests);
+}
+
+// The line of a salvage: `old` is the digest of an old Z.
+pub fn tell_salvage(number: u64, answer: Answer, old: u64, file: &[u8], room: &[u8]) {
+    let digests = Digests {
+        bytes: digest_bytes(room),
+        ledger: digest_bytes(file),
+        errors: 0,
+        words: 0,
+        rows: old,
+    };
+    write(number, 24, answer, digests);
 }

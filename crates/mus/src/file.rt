@@ -1,11 +1,14 @@
-// The working file: reader and writer, and the sheet of a file.
+// The working file: reader and writer, the salvage of one that was cut, and the sheet of a file.
 use results::ReadResult;
+use results::SalvageResult;
 use results::SheetResult;
 use results::WriteResult;
 ghost use Rattle.workfile.specs.Promises.{planWith, readSays, writeSays, ReadPromise, WritePromise};
+ghost use Rattle.salvaging.specs.Salvage.{salvageSays, SalvagePromise};
 ghost use Rattle.sheet.specs.Sheet.{sheetSays, SheetPromise};
 ghost use Rattle.results.specs.Seen.{Sees};
 ghost use Rattle.results.specs.Results.{readSeen, writeSeen, sheetSeen};
+ghost use Rattle.results.specs.Salvage.{salvageSeen};
 
 // Reads a working file into the buffers.
 #[no_mangle]
@@ -34,6 +37,14 @@ pub extern "C" fn mus_write(
     ensures { λ r. ⌜ Sees writeSeen writeSays (λ a. WritePromise (planWith level te ae) (now (words .entry)) (now (values .entry)) (now (errors .entry)) (now (file .entry)) a (now (file .exit))) r ⌝ }
 {
     results::file::of_write(writer::write(level, te, ae, words, values, errors, file))
+}
+
+// Mends a working file that was cut, into the second buffer.
+#[no_mangle]
+pub extern "C" fn mus_salvage(file: &[u8], out: &mut [u8]) -> SalvageResult
+    ensures { λ r. ⌜ Sees salvageSeen salvageSays (λ a. SalvagePromise (now (file .entry)) (now (out .entry)) a (now (out .exit))) r ⌝ }
+{
+    results::salvage::of_salvage(salvaging::salvage(file, out))
 }
 
 // Prints the sheet of what stands on the desk program's standard input onto the page.

@@ -100,6 +100,14 @@ module _ (f : List ℕ) (s : Stopped) (is : s ≡ stoppedIn f) where
   unfolding stoppedIn
   by-plan P there none = subst P (sym is) (by-test P (hasPlan f) there none)
 
+  pub passed : hasPlan f ≡ true → s ≡ stoppedAt f (stopIn f)
+  unfolding stoppedIn
+  passed h = is ∙ rw h
+
+  pub none-passed : hasPlan f ≡ false → s .at ≡ 0
+  unfolding stoppedIn
+  none-passed h = ap (λ (x : Stopped). x .at) is ∙ rw h
+
   pub within : s .at ≤ length f
   within = by-plan (λ x. x .at ≤ length f) (λ h. halts-in f h .within) (λ h. omega arith)
 

@@ -5,3 +5,4 @@ pub mod Strata
 pub mod Season
 pub mod Control
 pub mod Findings
+pub mod Salvage

@@ -7,6 +7,7 @@ pub mod by_strata; // by_strata.rt: answers of the operations by strata
 pub mod control; // control.rt: answers of the attribute job aid
 pub mod file; // file.rt: answers of the working file and its sheet
 pub mod posting; // posting.rt: answers of posting findings
+pub mod salvage; // salvage.rt: the answer of the salvage
 pub mod steps; // steps.rt: answers of the steps
 pub mod tally; // tally.rt: the tally of a season
 
@@ -164,6 +165,21 @@ pub struct WriteResult {
     pub refusal: u64,
     pub place: u64,
     pub length: u64,
+}
+
+// An old Z is there where `old` is 1; its figures are the last two.
+#[repr(C)]
+pub struct SalvageResult {
+    pub refusal: u64,
+    pub place: u64,
+    pub length: u64,
+    pub kept: u64,
+    pub dropped: u64,
+    pub lines: u64,
+    pub sum: u64,
+    pub old: u64,
+    pub old_lines: u64,
+    pub old_sum: u64,
 }
 
 #[repr(C)]

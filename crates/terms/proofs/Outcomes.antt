@@ -67,7 +67,7 @@ listed p =
     Refusal.IntervalTooLarge ∷ Refusal.StartOutOfRange p ∷ Refusal.NoWordPasses p ∷ Refusal.LengthsDiffer ∷ Refusal.ErrorAboveValue p ∷
     Refusal.ErrorNotDrawn p ∷ Refusal.TooManyErrors ∷ Refusal.FileBreaksRule p ∷ Refusal.RoomTooShort p ∷ Refusal.NoLegalFile ∷
     Refusal.LineNotThere p ∷ Refusal.NoLegalFile ∷ Refusal.StrataOutOfRange ∷ Refusal.TooFewDraws ∷ Refusal.UnknownTeam ∷
-    Refusal.UnknownTolerance ∷ Refusal.TooManyExceptions ∷ Refusal.TooManyJudgements ∷ Refusal.SumTooLarge ∷ Refusal.NoLegalFile ∷
+    Refusal.UnknownTolerance ∷ Refusal.TooManyExceptions ∷ Refusal.TooManyJudgements ∷ Refusal.SumTooLarge ∷ Refusal.NoWholePlan ∷
     Refusal.CountsDoNotAdd ∷ []
 
 entry : List Refusal → ℕ → Refusal
@@ -104,6 +104,7 @@ found Refusal.UnknownTolerance = refl
 found Refusal.TooManyExceptions = refl
 found Refusal.TooManyJudgements = refl
 found Refusal.SumTooLarge = refl
+found Refusal.NoWholePlan = refl
 found Refusal.CountsDoNotAdd = refl
 
 -- so no two refusals share both

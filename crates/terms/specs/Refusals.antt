@@ -34,6 +34,7 @@ tells Refusal.UnknownTolerance = row 25 0
 tells Refusal.TooManyExceptions = row 26 0
 tells Refusal.TooManyJudgements = row 27 0
 tells Refusal.SumTooLarge = row 28 0
+tells Refusal.NoWholePlan = row 29 0
 tells Refusal.CountsDoNotAdd = row 30 0
 
 abbrev pub number : Refusal → ℕ

@@ -52,6 +52,7 @@ pub enum Refusal {
     TooManyExceptions,
     TooManyJudgements,
     SumTooLarge,
+    NoWholePlan,
     CountsDoNotAdd,
 }
 
@@ -99,6 +100,7 @@ pub fn tell(refusal: Refusal) -> Told
         Refusal::TooManyExceptions => row(26, 0),
         Refusal::TooManyJudgements => row(27, 0),
         Refusal::SumTooLarge => row(28, 0),
+        Refusal::NoWholePlan => row(29, 0),
         Refusal::CountsDoNotAdd => row(30, 0),
     }
 }

@@ -5,6 +5,7 @@ mod by_team; // by_team.rt: cases by a team's own bits
 mod postings; // postings.rt: cases of findings
 mod projected; // projected.rt: cases of the projected lines
 mod reads; // reads.rt: cases of a read
+mod salvages; // salvages.rt: cases of a salvage
 mod seasons; // seasons.rt: cases of the tally of a season
 mod steps; // steps.rt: cases of the other operations
 
@@ -48,6 +49,7 @@ fn run(
         13 => seasons::run(number, case, numbers),
         16 | 17 => postings::run(number, case, numbers, errors, amounts, room),
         18..=21 => by_team::run(number, case, numbers, errors, amounts, room),
+        24 => salvages::run(number, case, room),
         _ => steps::run(number, case, numbers, errors, room),
     }
 }

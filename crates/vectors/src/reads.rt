@@ -3,7 +3,7 @@ use feed::fields;
 use feed::lines;
 
 fn call(number: u64, file: &[u8], words: &mut [u64], values: &mut [u64], errors: &mut [i64]) {
-    let answer = calls::read(file, words, values, errors);
+    let answer = calls::file::read(file, words, values, errors);
     lines::tell(number, 7, answer, file, values, errors, words);
 }
 

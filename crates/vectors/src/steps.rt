@@ -22,7 +22,7 @@ fn answer(case: Case, ledger: &[u64], errors: &[i64], words: &[u64], room: &mut 
             errors,
             case.third,
         ),
-        8 => calls::write(
+        8 => calls::file::write(
             case.level,
             case.first,
             case.second,

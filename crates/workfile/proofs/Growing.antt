@@ -52,7 +52,7 @@ plan-grow c (End n s) = refl
 plan-grow c Nothing = refl
 
 -- a record that is not Z comes after those between P and Z
-between-grow : (c : Content) (r : FileRecord) → Rule (tallyOf c) r → SoFar c → isEnd r ≡ false → between (grow c r) ≡ between c ++ (r ∷ [])
+pub between-grow : (c : Content) (r : FileRecord) → Rule (tallyOf c) r → SoFar c → isEnd r ≡ false → between (grow c r) ≡ between c ++ (r ∷ [])
 unfolding grow
 between-grow c (Word w) h s i =
     let v : c .values ≡ [] = nil-of-length (c .values) (h .0) in

@@ -5,6 +5,7 @@ pub mod Rules
 pub mod Lists
 pub mod Growing
 pub mod Finding
+pub mod Placed
 pub mod Stopping
 pub mod OneFile
 pub mod RoundTrip

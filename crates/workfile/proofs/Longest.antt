@@ -71,11 +71,12 @@ cut-run (suc k) (suc k′) c at bs s p h h′ l =
     later (one-more c r u s) (omega arith) (omega arith) (omega arith) (omega arith)
     ∙ ap (λ (l : List ℕ). run k′ (grow c r) (at + size r) l) (ap (λ (n : ℕ). take n (drop (size r) bs)) z ∙ sym (drop-take (size r) m bs)))) (λ _. refl))
 
-plan-cut : (f : List ℕ) → planOf (take 45664 f) ≡ planOf f
-plan-cut f =
-    let level = getD-take 45664 f 1 0 (omega arith) in
-    let te : littleEndian 8 (drop 2 (take 45664 f)) ≡ littleEndian 8 (drop 2 f) = ap (littleEndian 8) (drop-take 2 45664 f) ∙ number-of-front 8 45662 (drop 2 f) (omega arith) in
-    let ae : littleEndian 8 (drop 10 (take 45664 f)) ≡ littleEndian 8 (drop 10 f) = ap (littleEndian 8) (drop-take 10 45664 f) ∙ number-of-front 8 45654 (drop 10 f) (omega arith) in
+-- P stands in the first 18 bytes
+pub plan-cut : (m : ℕ) (f : List ℕ) → 18 ≤ m → planOf (take m f) ≡ planOf f
+plan-cut m f h =
+    let level = getD-take m f 1 0 (omega arith) in
+    let te : littleEndian 8 (drop 2 (take m f)) ≡ littleEndian 8 (drop 2 f) = ap (littleEndian 8) (drop-take 2 m f) ∙ number-of-front 8 (m - 2) (drop 2 f) (omega arith) in
+    let ae : littleEndian 8 (drop 10 (take m f)) ≡ littleEndian 8 (drop 10 f) = ap (littleEndian 8) (drop-take 10 m f) ∙ number-of-front 8 (m - 10) (drop 10 f) (omega arith) in
     λ i. record { level = level i; te = te i; ae = ae i }
 
 longer-decide : (f : List ℕ) → 45664 < length f → decode f ≡ decode (take 45664 f)
@@ -87,7 +88,7 @@ longer-decide f h =
     cut-run (length f) 45664 (start (planOf f)) 18 (drop 18 f) (at-first (planOf f)) refl (omega arith) (omega arith) (omega arith) in
     let again : run 45664 (start (planOf f)) 18 (take 45646 (drop 18 f)) ≡ run (length (take 45664 f)) (start (planOf (take 45664 f))) 18 (drop 18 (take 45664 f)) =
     ap (λ (l : List ℕ). run 45664 (start (planOf f)) 18 l) (sym (drop-take 18 45664 f))
-    ∙ ap₂ (λ (n : ℕ) (p : Plan). run n (start p) 18 (drop 18 (take 45664 f))) (sym long) (sym (plan-cut f)) in
+    ∙ ap₂ (λ (n : ℕ) (p : Plan). run n (start p) 18 (drop 18 (take 45664 f))) (sym long) (sym (plan-cut 45664 f (omega arith))) in
     let has : hasPlan f ≡ hasPlan (take 45664 f) =
     ap₂ (λ (x : ℕ) (t : Bool). eqb x 0x50 && t) (sym (getD-take 45664 f 0 0 (omega arith)))
     (le-leb 18 (length f) (omega arith) ∙ sym (le-leb 18 (length (take 45664 f)) (omega arith))) in

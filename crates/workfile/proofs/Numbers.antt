@@ -3,7 +3,8 @@ use Prim.Native.Nat.{ℕ, zero, suc, _+_, _*_, _/_, _%_, _^_, _<_, _≤_}
 use mathlib.Core.Path.{_≡_, refl, ap}
 use mathlib.Core.List.{List, [], _∷_, _++_}
 use native.Mathlib.Omega.{arith}
-use lib.ListN.{length, take}
+use lib.ListN.{length, take, drop}
+use lib.Seq.{getD-drop}
 use Rattle.workfile.specs.Numbers.{littleEndian, bytes, Bytes}
 
 pub length-bytes : (n x : ℕ) → length (bytes n x) ≡ n
@@ -23,6 +24,12 @@ bytes-again (suc n) (x ∷ bs) b h =
     let low : (x + 256 * littleEndian n bs) % 256 ≡ x = omega (arith, b 0) in
     let high : (x + 256 * littleEndian n bs) / 256 ≡ littleEndian n bs = omega (arith, b 0) in
     rw (low, high, bytes-again n bs (λ i. b (suc i)) (omega arith))
+
+-- a number of bytes fits them
+pub number-below : (n : ℕ) (bs : List ℕ) → Bytes bs → littleEndian n bs < 256 ^ n
+unfolding littleEndian
+number-below zero bs b = omega arith
+number-below (suc n) bs b = omega (arith, b 0, number-below n (drop 1 bs) (λ i. rw getD-drop (b (1 + i))))
 
 -- a number is that of the bytes it takes
 pub number-of-front : (n m : ℕ) (bs : List ℕ) → n ≤ m → littleEndian n (take m bs) ≡ littleEndian n bs

@@ -12,9 +12,11 @@ use Rattle.terms.proofs.Tests.{by-test}
 use Rattle.workfile.specs.Numbers.{littleEndian, bytes, Bytes}
 use Rattle.workfile.specs.Content.{errorKind, bytesOf}
 use Rattle.workfile.specs.Decode.{size, recordOf}
+use Rattle.workfile.specs.Rules.{Rule}
+use Rattle.workfile.specs.declared.Tally.{Tally}
 use Rattle.workfile.specs.declared.FileRecord.{FileRecord}
 use Rattle.workfile.specs.declared.FileRecord.the-variants.{Word, Value, ErrorOf, End, Nothing}
-use Rattle.workfile.proofs.Numbers.{number-again, bytes-again, number-of-front}
+use Rattle.workfile.proofs.Numbers.{number-again, bytes-again, number-below, number-of-front}
 
 -- the numbers of a record fit their bytes
 abbrev pub Good : FileRecord → Type 0
@@ -91,6 +93,20 @@ pub whole-size : (bs : List ℕ) → size (recordOf bs) ≤ length bs
 whole-size bs =
     by-kind (λ r. size r ≤ length bs) bs (λ k h. leb-true 9 (length bs) h) (λ k h. leb-true 9 (length bs) h) (λ u k h. leb-true 13 (length bs) h)
     (λ k h. leb-true 13 (length bs) h) (omega arith)
+
+-- the numbers of a record that the rules allow fit their bytes
+pub good-record : (t : Tally) (bs : List ℕ) → Bytes bs → Rule t (recordOf bs) → Good (recordOf bs)
+good-record t bs b =
+    by-kind (λ r. Rule t r → Good r) bs (λ _ _ _. low) (λ _ _ _. low) (λ _ _ _ _. (short, high)) (λ _ _ _. (short, high)) (λ h. absurd h)
+  where
+    low : littleEndian 8 (drop 1 bs) < 256 ^ 8
+    low = number-below 8 (drop 1 bs) (λ i. rw getD-drop (b (1 + i)))
+
+    short : littleEndian 4 (drop 1 bs) < 256 ^ 4
+    short = number-below 4 (drop 1 bs) (λ i. rw getD-drop (b (1 + i)))
+
+    high : littleEndian 8 (drop 5 bs) < 256 ^ 8
+    high = number-below 8 (drop 5 bs) (λ i. rw getD-drop (b (5 + i)))
 
 pub drop-take : (j m : ℕ) (l : List ℕ) → drop j (take m l) ≡ take (m - j) (drop j l)
 drop-take zero m l = let z : m ≡ m - 0 = omega arith in ap (λ (n : ℕ). take n l) z

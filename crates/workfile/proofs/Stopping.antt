@@ -36,7 +36,7 @@ module _ (f : List ℕ) where
   pub other-kind : (getD f 0 0 ≡ 0x50 → ⊥) → hasPlan f ≡ false
   other-kind k = rw (ne-eqb (getD f 0 0) 0x50 k)
 
-plan-long : (f : List ℕ) → hasPlan f ≡ true → 18 ≤ length f
+pub plan-long : (f : List ℕ) → hasPlan f ≡ true → 18 ≤ length f
 plan-long f h = both (eqb (getD f 0 0) 0x50) (leb 18 (length f)) (eqb-true (getD f 0 0) 0x50) (leb-true 18 (length f)) h .1
 
 pub end-at-size : (f : List ℕ) (at : ℕ) → isEnd (recordAt f at) ≡ true → 13 ≤ length f - at
@@ -154,3 +154,17 @@ halts (suc k) c at f h w =
 pub halts-in : (f : List ℕ) → hasPlan f ≡ true → Halts f (stopIn f)
 unfolding stopIn
 halts-in f h = let l = plan-long f h in halts (length f) (start (planOf f)) 18 f (omega arith) l
+
+-- what holds where a pass stands, and is kept by each record that it reads, holds where it stops
+module _ (f : List ℕ) (P : Content → ℕ → Type 0)
+    (on : (c : Content) (at : ℕ) → P c at → readsOn (tallyOf c) (recordAt f at) ≡ true → P (grow c (recordAt f at)) (at + size (recordAt f at))) where
+  holds-on : (k : ℕ) (c : Content) (at : ℕ) → P c at → P (stop k c at (drop at f) .read) (stop k c at (drop at f) .at)
+  unfolding stop
+  holds-on zero c at p = p
+  holds-on (suc k) c at p =
+      let r = recordAt f at in
+      subst (λ (s : Stop). P (s .read) (s .at)) (sym (stop-step f at k c))
+      (by-test (λ (s : Stop). P (s .read) (s .at)) (readsOn (tallyOf c) r) (λ g. holds-on k (grow c r) (at + size r) (on c at p g)) (λ _. p))
+
+  pub holds-to-the-stop : {at : ℕ} {c : Content} → ReadTo f at c → P c at → P (stopIn f .read) (stopIn f .at)
+  holds-to-the-stop {at} {c} here p = subst (λ (s : Stop). P (s .read) (s .at)) (sym (here .same)) (holds-on (here .fuel) c at p)

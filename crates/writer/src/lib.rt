@@ -1,6 +1,6 @@
 // The writer of the working file: it judges the content and the room before it stores anything.
 mod lists; // lists.rt: the records of a list, and what a list adds up to
-mod records; // records.rt: one record
+pub mod records; // records.rt: one record
 
 use terms::Refusal;
 use workfile::Plan;

@@ -1,2 +1,3 @@
 -- The proof that no contract leaves freedom.
+mod Totals
 pub mod Unique

@@ -59,6 +59,7 @@ use Rattle.findings.proofs.Answers.{post-once, post-all-once}
 use Rattle.teams.proofs.Laws.{team-split-once, team-draw-once, team-post-once, team-post-all-once}
 use Rattle.results.specs.Seen.{Sees}
 use Rattle.contracts.specs.Unique.{One, OneWith, Three, NoFreedom}
+use Rattle.contracts.proofs.Totals.{builds-once, totals-once, finds-once, changes-once, appends-once, checks-once}
 
 -- the answers of the steps
 level-made : (r : LevelAnswer) → Made level.Known level.Refused r
@@ -206,6 +207,12 @@ no-freedom =
       team-draw = λ _ _ _ _ _ _ _ _ _ p q. team-draw-once p q;
       team-post = λ _ _ marks _ _ _ _ _ _ _ p q. team-post-once marks p q;
       team-post-all = λ _ _ marks _ _ _ _ _ _ _ p q. team-post-all-once marks p q;
+      totals-build = builds-once;
+      totals-total = totals-once;
+      totals-find = finds-once;
+      totals-change = changes-once;
+      totals-append = appends-once;
+      totals-check = checks-once;
       read = reads-once;
       write = writes-once;
       write-then-read = written-then-read-once;
@@ -241,6 +248,12 @@ no-freedom =
       mus-team-draw = λ _ _ _ _ _. sees-with (λ _ _ _ _ p q. team-draw-once p q);
       mus-team-post = λ _ _ marks _ _ _. sees-with (λ _ _ _ _ p q. team-post-once marks p q);
       mus-team-post-all = λ _ _ marks _ _ _. sees-with (λ _ _ _ _ p q. team-post-all-once marks p q);
+      mus-totals-build = λ room count summary. sees-with (builds-once room count summary);
+      mus-totals-total = λ room count summary. sees (totals-once room count summary);
+      mus-totals-find = λ room count summary cent. sees (finds-once room count summary cent);
+      mus-totals-change = λ room count summary line value. sees-with (changes-once room count summary line value);
+      mus-totals-append = λ room count summary value. sees-with (appends-once room count summary value);
+      mus-totals-check = λ room count summary. sees (checks-once room count summary);
       mus-read = λ file words values errors. sees-with (reads-once file words values errors);
       mus-write = λ plan words values errors file. sees-with (writes-once plan words values errors file);
       mus-salvage = λ _ _. sees-with (λ _ _ _ _ p q. salvage-once p q);

@@ -27,6 +27,18 @@ fn put_by_team(pen: Pen, page: &mut [u8], operation: u8) -> Pen {
     }
 }
 
+// The name of an operation with totals beside the ledger.
+fn put_totals(pen: Pen, page: &mut [u8], operation: u8) -> Pen {
+    match operation {
+        25 => pen.text(page, b" totalsbuild"),
+        26 => pen.text(page, b" totalstotal"),
+        27 => pen.text(page, b" totalsfind"),
+        28 => pen.text(page, b" totalschange"),
+        29 => pen.text(page, b" totalsappend"),
+        _ => pen.text(page, b" totalscheck"),
+    }
+}
+
 // The name of an operation.
 fn put_name(pen: Pen, page: &mut [u8], operation: u8) -> Pen {
     match operation {
@@ -46,11 +58,12 @@ fn put_name(pen: Pen, page: &mut [u8], operation: u8) -> Pen {
         22 => pen.text(page, b" boarddraw"),
         23 => pen.text(page, b" boardproject"),
         24 => pen.text(page, b" salvage"),
+        25..=30 => put_totals(pen, page, operation),
         _ => pen.text(page, b" is of no operation"),
     }
 }
 
-// The digests of what was lent: the room or the file, and each list; amounts, or counts and starts, or a batch of findings, stand in the
+// The digests of what was lent: the room or the file, and each list; amounts, or counts and starts, a batch of findings or a summary, stand in the
 // place of the words, and a salvage's file in that of the ledger. And that of the strata's rows, of a season's tallies, or of an old Z.
 struct Digests {
     bytes: u64,
@@ -97,6 +110,7 @@ fn put_digests(pen: Pen, page: &mut [u8], operation: u8, d: Digests) -> Pen {
         7 => put_lent(pen, page, &[d.bytes, d.words, d.ledger, d.errors]),
         9 => put_lent(pen, page, &[d.ledger, d.errors, d.words]),
         16 | 17 | 20 | 21 => put_lent(pen, page, &[d.ledger, d.errors, d.words, d.bytes]),
+        25..=30 => put_lent(pen, page, &[d.ledger, d.words]),
         10..=12 => put_by_strata(pen, page, operation, d),
         13 => {
             let told = put_rows(pen, page, d.rows);

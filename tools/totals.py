@@ -1,0 +1,107 @@
+#!/usr/bin/env python3
+"""The tables of docs/HANDBOOK.md for totals beside the ledger, on a room of 600 entries with 300 lines of 2 cents in use.
+
+    python3 tools/totals.py write      puts the tables into the page, each in the place of the one with its heading
+    python3 tools/totals.py check      compares them with what is there, and the exercise on a summary with its answer
+"""
+
+import sys
+
+from findings import look_for
+from mistakes import PAGE, ROOT, with_tables
+from programmes import table
+from reference import Refusal
+from reference_totals import PER_BLOCK, append, build, change, check, find, right_summary, total
+
+ROOM, COUNT = [2] * 600, 300
+RIGHT = right_summary(ROOM, COUNT)
+WRONG_BLOCK, WRONG_SUM, TOO_MUCH, TOO_LITTLE = [510, 90, 0, 600], [512, 88, 0, 601], [600, 88, 0, 600], [100, 88, 0, 600]
+
+# A call in words, the operation, the summary before it, and its inputs.
+CALLS = [
+    ("total", total, RIGHT, ()),
+    ("find cent 0", find, RIGHT, (0,)),
+    ("find cent 511", find, RIGHT, (511,)),
+    ("find cent 514", find, RIGHT, (514,)),
+    ("find cent 600", find, RIGHT, (600,)),
+    ("check", check, RIGHT, ()),
+    ("change line 299 to 12", change, RIGHT, (299, 12)),
+    ("change line 300 to 12", change, RIGHT, (300, 12)),
+    ("append 5", append, RIGHT, (5,)),
+    ("check", check, WRONG_BLOCK, ()),
+    ("find cent 514", find, WRONG_BLOCK, (514,)),
+    ("check", check, WRONG_SUM, ()),
+    ("find cent 599", find, TOO_MUCH, (599,)),
+    ("find cent 599", find, TOO_LITTLE, (599,)),
+    ("change line 299 to 0", change, [512, 1, 0, 1], (299, 0)),
+    ("change line 299 to 0", change, [512, 88, 0, 1], (299, 0)),
+    ("build", build, TOO_LITTLE, ()),
+]
+
+# The exercise: a room of 520 entries with 257 lines of 10 cents, of which line 0 is changed and one more is appended; and a summary with a wrong figure.
+EXERCISE_ROOM, EXERCISE_COUNT = [10] * 520, 257
+
+
+def entries(figures):
+    return ", ".join(map(str, figures))
+
+
+def answered(answer):
+    if isinstance(answer, Refusal):
+        return f"refused {answer.number} {answer.place}"
+    if answer._fields == ("wrong", "block"):
+        return f"wrong, block {answer.block}" if answer.wrong else "right"
+    return f"{answer._fields[0]} {answer[0]}"
+
+
+def blocks_table():
+    rows = []
+    for block, figure in enumerate(RIGHT[:-1]):
+        first, last = block * PER_BLOCK, min(len(ROOM), (block + 1) * PER_BLOCK) - 1
+        used = max(0, min(COUNT, last + 1) - first)
+        rows.append([str(block), f"{first} to {last}", used, figure])
+    return table(["block", "entries of the room", "lines in use", "total"], [*rows, ["", "all", COUNT, RIGHT[-1]]])
+
+
+def calls_table():
+    rows = []
+    for words, operation, before, inputs in CALLS:
+        room, summary = list(ROOM), list(before)
+        answer = operation(room, COUNT, summary, *inputs)
+        rows.append([words, entries(before), answered(answer), entries(summary)])
+    return table(["call", "summary before", "answer", "summary then"], rows)
+
+
+def check_exercise():
+    room, count = list(EXERCISE_ROOM), EXERCISE_COUNT
+    summary = [0] * len(right_summary(room, count))
+    built = build(room, count, summary)
+    told = [f"{answered(built)}, and the summary is {entries(summary)}"]
+    told.append(f"Cent 2,559 is on {answered(find(room, count, summary, 2_559))}, cent 2,560 on {answered(find(room, count, summary, 2_560))}")
+    told.append(f"cent 2,570 is `{answered(find(room, count, summary, 2_570))}`")
+    changed = change(room, count, summary, 0, 3)
+    told.append(f"{answered(changed)}, and the summary is {entries(summary)}")
+    more = append(room, count, summary, 4)
+    told.append(f"{answered(more)}, and the summary is {entries(summary)}")
+    wrong = [summary[0] - 7, *summary[1:]]
+    told.append(f"{answered(check(room, more.count, wrong))}")
+    told.append(f"Cent 2,550 is then on {answered(find(room, more.count, wrong, 2_550))}, where the right summary has {answered(find(room, more.count, summary, 2_550))}")
+    told.append(f"`{answered(find(room, more.count, [summary[0] + 30, *summary[1:]], 2_560))}`")
+    look_for(told, "ANSWERS", (ROOT / "docs/ANSWERS.md").read_text())
+
+
+def main(arguments):
+    if arguments not in (["write"], ["check"]):
+        sys.exit(__doc__)
+    page = PAGE.read_text()
+    check_exercise()
+    made = with_tables(page, ["\n".join(lines) for lines in (blocks_table(), calls_table())])
+    if arguments == ["write"]:
+        PAGE.write_text(made)
+    elif made != page:
+        sys.exit("docs/HANDBOOK.md does not hold what tools/totals.py writes")
+    print("totals: 2 tables and the exercise as computed")
+
+
+if __name__ == "__main__":
+    main(sys.argv[1:])

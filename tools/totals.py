@@ -1,8 +1,9 @@
 #!/usr/bin/env python3
-"""The tables of docs/HANDBOOK.md for totals beside the ledger, on a room of 600 entries with 300 lines of 2 cents in use.
+"""The tables of docs/HANDBOOK.md for totals beside the ledger, on a room of 600 entries with 300 lines of 2 cents in use, and the text that
+examples/c/totals.c prints of it.
 
-    python3 tools/totals.py write      puts the tables into the page, each in the place of the one with its heading
-    python3 tools/totals.py check      compares them with what is there, and the exercise on a summary with its answer
+    python3 tools/totals.py write      puts the tables into the page, each in the place of the one with its heading, and writes examples/c/totals.out
+    python3 tools/totals.py check      compares both with what is there, and the exercise on a summary with its answer
 """
 
 import sys
@@ -10,11 +11,12 @@ import sys
 from findings import look_for
 from mistakes import PAGE, ROOT, with_tables
 from programmes import table
-from reference import Refusal
+from reference import Refusal, text_line
 from reference_totals import PER_BLOCK, append, build, change, check, find, right_summary, total
 
 ROOM, COUNT = [2] * 600, 300
 RIGHT = right_summary(ROOM, COUNT)
+TEXT = ROOT / "examples/c/totals.out"
 WRONG_BLOCK, WRONG_SUM, TOO_MUCH, TOO_LITTLE = [510, 90, 0, 600], [512, 88, 0, 601], [600, 88, 0, 600], [100, 88, 0, 600]
 
 # A call in words, the operation, the summary before it, and its inputs.
@@ -72,6 +74,38 @@ def calls_table():
     return table(["call", "summary before", "answer", "summary then"], rows)
 
 
+def example_text():
+    """What the example in C prints: a day's calls, and the check before and after a line that is changed past the library."""
+    room, count, summary, lines = list(ROOM), COUNT, [0] * len(RIGHT), []
+
+    def say(call, shown, *inputs, left=False):
+        answer = call(room, count, summary, *inputs)
+        lines.append(text_line("refused", *answer) if isinstance(answer, Refusal) else shown(answer))
+        if left:
+            lines.append(text_line("summary", *summary))
+        return answer
+
+    def night():
+        say(check, lambda a: text_line("wrong from block", a.block) if a.wrong else text_line("right"))
+
+    def anew():
+        say(build, lambda a: text_line("built", a.total), left=True)
+
+    anew()
+    say(find, lambda a: text_line("cent", 514, "line", a.line), 514)
+    for line in 0, COUNT:
+        say(change, lambda a, line=line: text_line("changed", line, "total", a.total), line, 7, left=True)
+    count = say(append, lambda a: text_line("appended count", a.count), 5, left=True).count
+    say(total, lambda a: text_line("total", a.total))
+    say(find, lambda a: text_line("cent", 609, "line", a.line), 609)
+    night()
+    room[0] = 2
+    night()
+    anew()
+    night()
+    return "".join(lines)
+
+
 def check_exercise():
     room, count = list(EXERCISE_ROOM), EXERCISE_COUNT
     summary = [0] * len(right_summary(room, count))
@@ -98,9 +132,10 @@ def main(arguments):
     made = with_tables(page, ["\n".join(lines) for lines in (blocks_table(), calls_table())])
     if arguments == ["write"]:
         PAGE.write_text(made)
-    elif made != page:
-        sys.exit("docs/HANDBOOK.md does not hold what tools/totals.py writes")
-    print("totals: 2 tables and the exercise as computed")
+        TEXT.write_text(example_text())
+    elif made != page or TEXT.read_text() != example_text():
+        sys.exit("docs/HANDBOOK.md or examples/c/totals.out does not hold what tools/totals.py writes")
+    print("totals: 2 tables, the example's text and the exercise as computed")
 
 
 if __name__ == "__main__":

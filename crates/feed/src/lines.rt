@@ -17,6 +17,44 @@ fn put_step(pen: Pen, page: &mut [u8], operation: u8) -> Pen {
     }
 }
 
+// The name of an operation on a file, or on lines.
+fn put_on_file(pen: Pen, page: &mut [u8], operation: u8) -> Pen {
+    match operation {
+        7 => pen.text(page, b" read"),
+        8 => pen.text(page, b" write"),
+        9 => pen.text(page, b" lines"),
+        _ => pen.text(page, b" salvage"),
+    }
+}
+
+// The name of an operation by strata.
+fn put_on_strata(pen: Pen, page: &mut [u8], operation: u8) -> Pen {
+    match operation {
+        10 => pen.text(page, b" strataplan"),
+        11 => pen.text(page, b" stratadraw"),
+        _ => pen.text(page, b" strataproject"),
+    }
+}
+
+// The name of the tally, or of an operation for a control test.
+fn put_counted(pen: Pen, page: &mut [u8], operation: u8) -> Pen {
+    match operation {
+        13 => pen.text(page, b" tally"),
+        14 => pen.text(page, b" attributesize"),
+        _ => pen.text(page, b" attributebound"),
+    }
+}
+
+// The name of an operation with findings, or by walking.
+fn put_found(pen: Pen, page: &mut [u8], operation: u8) -> Pen {
+    match operation {
+        16 => pen.text(page, b" post"),
+        17 => pen.text(page, b" postall"),
+        22 => pen.text(page, b" boarddraw"),
+        _ => pen.text(page, b" boardproject"),
+    }
+}
+
 // The name of an operation by a team's own bits.
 fn put_by_team(pen: Pen, page: &mut [u8], operation: u8) -> Pen {
     match operation {
@@ -43,21 +81,11 @@ fn put_totals(pen: Pen, page: &mut [u8], operation: u8) -> Pen {
 fn put_name(pen: Pen, page: &mut [u8], operation: u8) -> Pen {
     match operation {
         1..=6 => put_step(pen, page, operation),
-        7 => pen.text(page, b" read"),
-        8 => pen.text(page, b" write"),
-        9 => pen.text(page, b" lines"),
-        10 => pen.text(page, b" strataplan"),
-        11 => pen.text(page, b" stratadraw"),
-        12 => pen.text(page, b" strataproject"),
-        13 => pen.text(page, b" tally"),
-        14 => pen.text(page, b" attributesize"),
-        15 => pen.text(page, b" attributebound"),
-        16 => pen.text(page, b" post"),
-        17 => pen.text(page, b" postall"),
+        7 | 8 | 9 | 24 => put_on_file(pen, page, operation),
+        10..=12 => put_on_strata(pen, page, operation),
+        13..=15 => put_counted(pen, page, operation),
+        16 | 17 | 22 | 23 => put_found(pen, page, operation),
         18..=21 => put_by_team(pen, page, operation),
-        22 => pen.text(page, b" boarddraw"),
-        23 => pen.text(page, b" boardproject"),
-        24 => pen.text(page, b" salvage"),
         25..=30 => put_totals(pen, page, operation),
         _ => pen.text(page, b" is of no operation"),
     }

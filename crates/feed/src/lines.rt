@@ -113,8 +113,31 @@ fn put_rows(pen: Pen, page: &mut [u8], rows: u64) -> Pen {
     told.fields(page, &[rows])
 }
 
-// The digests of what an operation by strata was lent, after those of its rows; a draw has none.
-fn put_by_strata(pen: Pen, page: &mut [u8], operation: u8, d: Digests) -> Pen {
+// The digests of what a step was lent.
+fn put_lent_to_step(pen: Pen, page: &mut [u8], operation: u8, d: Digests) -> Pen {
+    match operation {
+        1 => pen,
+        2 | 4 => put_lent(pen, page, &[d.ledger, d.bytes]),
+        3 => put_lent(pen, page, &[d.words]),
+        _ => put_lent(pen, page, &[d.ledger, d.errors]),
+    }
+}
+
+// Of an operation on a file, or on lines; a salvage has its old Z before them.
+fn put_lent_to_file(pen: Pen, page: &mut [u8], operation: u8, d: Digests) -> Pen {
+    match operation {
+        7 => put_lent(pen, page, &[d.bytes, d.words, d.ledger, d.errors]),
+        9 => put_lent(pen, page, &[d.ledger, d.errors, d.words]),
+        24 => {
+            let told = put_rows(pen, page, d.rows);
+            put_lent(told, page, &[d.ledger, d.bytes])
+        }
+        _ => put_lent(pen, page, &[d.words, d.ledger, d.errors, d.bytes]),
+    }
+}
+
+// Of an operation by strata, after those of its rows; a draw has none.
+fn put_lent_to_strata(pen: Pen, page: &mut [u8], operation: u8, d: Digests) -> Pen {
     match operation {
         10 => {
             let told = put_rows(pen, page, d.rows);
@@ -128,27 +151,26 @@ fn put_by_strata(pen: Pen, page: &mut [u8], operation: u8, d: Digests) -> Pen {
     }
 }
 
+// Of an operation with findings, a team's too.
+fn put_lent_to_posting(pen: Pen, page: &mut [u8], d: Digests) -> Pen {
+    put_lent(pen, page, &[d.ledger, d.errors, d.words, d.bytes])
+}
+
 // The digests of what an operation was lent.
 fn put_digests(pen: Pen, page: &mut [u8], operation: u8, d: Digests) -> Pen {
     match operation {
-        1 | 14 | 15 => pen,
-        2 | 4 | 18 | 19 | 22 => put_lent(pen, page, &[d.ledger, d.bytes]),
-        3 => put_lent(pen, page, &[d.words]),
-        5 | 6 | 23 => put_lent(pen, page, &[d.ledger, d.errors]),
-        7 => put_lent(pen, page, &[d.bytes, d.words, d.ledger, d.errors]),
-        9 => put_lent(pen, page, &[d.ledger, d.errors, d.words]),
-        16 | 17 | 20 | 21 => put_lent(pen, page, &[d.ledger, d.errors, d.words, d.bytes]),
-        25..=30 => put_lent(pen, page, &[d.ledger, d.words]),
-        10..=12 => put_by_strata(pen, page, operation, d),
+        1..=6 => put_lent_to_step(pen, page, operation, d),
+        10..=12 => put_lent_to_strata(pen, page, operation, d),
         13 => {
             let told = put_rows(pen, page, d.rows);
             put_lent(told, page, &[d.words])
         }
-        24 => {
-            let told = put_rows(pen, page, d.rows);
-            put_lent(told, page, &[d.ledger, d.bytes])
-        }
-        _ => put_lent(pen, page, &[d.words, d.ledger, d.errors, d.bytes]),
+        14 | 15 => pen,
+        16 | 17 | 20 | 21 => put_lent_to_posting(pen, page, d),
+        18 | 19 | 22 => put_lent(pen, page, &[d.ledger, d.bytes]),
+        23 => put_lent(pen, page, &[d.ledger, d.errors]),
+        25..=30 => put_lent(pen, page, &[d.ledger, d.words]),
+        _ => put_lent_to_file(pen, page, operation, d),
     }
 }
 

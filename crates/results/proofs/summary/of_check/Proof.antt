@@ -7,8 +7,6 @@ use Rattle.results.proofs.Refused.{of-case}
 use Rattle.results.proofs.summary.of_check.Statement.{statement}
 use Rattle.results.proofs.summary.of_check.Tie as tie
 
-ruleset cases = (of-case totalsCheckSeen checkSays, of-case totalsCheckSeen accepted)
-
 pub of-check-spec : {M : Type 1} → statement M
 of-check-spec =
     tie.close
@@ -16,5 +14,5 @@ of-check-spec =
     (λ c. search needs) (λ c. search needs) (λ c. search needs)
     (λ c. search needs) (λ c. search needs)
     (λ c. search (of-case totalsCheckSeen checkSays, c .tell .ensures))
-    (λ c. search cases)
-    (λ c. search cases))
+    (λ c. search (of-case totalsCheckSeen checkSays, of-case totalsCheckSeen accepted))
+    (λ c. search (of-case totalsCheckSeen checkSays, of-case totalsCheckSeen accepted)))

@@ -42,9 +42,9 @@
  *     mus_tally_add           1,752
  *     mus_attribute_size         80
  *     mus_attribute_bound       384
- *     mus_read                  288
+ *     mus_read                  392
  *     mus_write                 136
- *     mus_salvage               168
+ *     mus_salvage               280
  *     mus_sheet              35,712   35,344 + 48 r        39,664
  *
  * It was measured on the library as `rt staticlib mus` makes it (docs/PERFORMANCE.md). */

@@ -29,7 +29,7 @@
  *     mus_board_draw            176   128 + 48 r            4,448
  *     mus_board_project         600   208 + 48 r            4,528
  *     mus_judge               1,448   1,056 + 48 r          5,376
- *     mus_strata_plan         7,792   7,744 + 48 r         12,064
+ *     mus_strata_plan         7,840   7,792 + 48 r         12,112
  *     mus_strata_draw         6,512   6,464 + 48 r         10,784
  *     mus_strata_project     11,184   11,136 + 48 r        15,456
  *     mus_post                   72
@@ -38,6 +38,12 @@
  *     mus_team_draw             176   128 + 48 r            4,448
  *     mus_team_post              72
  *     mus_team_post_all         128
+ *     mus_totals_build           80
+ *     mus_totals_total           40
+ *     mus_totals_find            64
+ *     mus_totals_change          88
+ *     mus_totals_append          88
+ *     mus_totals_check          104
  *     mus_tally_none            296
  *     mus_tally_add           1,752
  *     mus_attribute_size         80

@@ -9,7 +9,8 @@ use parts::part;
 
 // A draw or a projection, by either method.
 fn by_either_method(case: Case, ledger: &[u64], errors: &[i64], room: &mut [u8]) -> Answer {
-    match case.operation {
+    let operation = case.operation;
+    match operation {
         4 => calls::draw(ledger, case.first, case.second, room),
         5 => calls::project(ledger, case.first, case.second, errors),
         22 => calls::board::board_draw(ledger, case.first, case.second, room),
@@ -19,7 +20,8 @@ fn by_either_method(case: Case, ledger: &[u64], errors: &[i64], room: &mut [u8])
 
 // What takes no ledger: the size, or an operation for a control test.
 fn of_numbers(case: Case) -> Answer {
-    match case.operation {
+    let operation = case.operation;
+    match operation {
         14 => calls::attribute_size(case.level, (case.first % 256) as u8),
         15 => calls::attribute_bound(case.level, (case.first % 256) as u8, case.second),
         _ => calls::size(case.level, case.first, case.second, case.third),

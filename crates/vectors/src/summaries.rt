@@ -7,7 +7,8 @@ use feed::lines;
 
 fn answer(case: Case, room: &mut [u64], summary: &mut [u64]) -> Answer {
     let count = case.first;
-    match case.operation {
+    let operation = case.operation;
+    match operation {
         25 => calls::summary::totals_build(room, count, summary),
         26 => calls::summary::totals_total(room, count, summary),
         27 => calls::summary::totals_find(room, count, summary, case.second),

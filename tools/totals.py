@@ -8,8 +8,7 @@ examples/c/totals.c prints of it.
 
 import sys
 
-from findings import look_for
-from mistakes import PAGE, ROOT, with_tables
+from pages import ANSWERS, ROOT, is_write, keep_tables, look_for
 from programmes import table
 from reference import Refusal, text_line
 from reference_totals import PER_BLOCK, append, build, change, check, find, right_summary, total
@@ -121,21 +120,14 @@ def check_exercise():
     told.append(f"{answered(check(room, more.count, wrong))}")
     told.append(f"Cent 2,550 is then on {answered(find(room, more.count, wrong, 2_550))}, where the right summary has {answered(find(room, more.count, summary, 2_550))}")
     told.append(f"`{answered(find(room, more.count, [summary[0] + 30, *summary[1:]], 2_560))}`")
-    look_for(told, "ANSWERS", (ROOT / "docs/ANSWERS.md").read_text())
+    look_for(told, "ANSWERS", ANSWERS.read_text())
 
 
 def main(arguments):
-    if arguments not in (["write"], ["check"]):
-        sys.exit(__doc__)
-    page = PAGE.read_text()
+    write = is_write(arguments, __doc__)
     check_exercise()
-    made = with_tables(page, ["\n".join(lines) for lines in (blocks_table(), calls_table())])
-    if arguments == ["write"]:
-        PAGE.write_text(made)
-        TEXT.write_text(example_text())
-    elif made != page or TEXT.read_text() != example_text():
-        sys.exit("docs/HANDBOOK.md or examples/c/totals.out does not hold what tools/totals.py writes")
-    print("totals: 2 tables, the example's text and the exercise as computed")
+    made = keep_tables(write, "totals.py", [blocks_table(), calls_table()], {TEXT: example_text()})
+    print(f"totals: {made} tables, the example's text and the exercise as computed")
 
 
 if __name__ == "__main__":

@@ -5,7 +5,8 @@ import sys
 FEWEST = 10_000  # lines of a ledger of one round
 MOST_ROUNDS = 90  # mostRounds of crates/split/specs/Intervals.antt
 
-# A call, the row of one round in which it goes deepest, and the row of many rounds with the most lines of its ledger.
+# A call, the row of one round in which it goes deepest, and the row of many rounds with the most lines of its ledger. A call by either method
+# has a row for each, and the larger figures.
 STACK = [
     ("mus_size", "size", None, 0),
     ("mus_split", "split-1", "split-deep", 1_000_000),
@@ -39,6 +40,7 @@ STACK = [
     ("mus_write", "write", None, 0),
     ("mus_salvage", "salvage", None, 0),
     ("mus_sheet", "sheet", "sheet-deep", 2_048),
+    ("mus_sheet", "sheet-walked", "sheet-walked-deep", 2_048),
 ]
 # The same before document 02's K3, when a round kept 112 bytes: one round, and 90; of the calls that were there.
 BEFORE = {
@@ -64,11 +66,11 @@ def measured_stack(said):
         sys.exit("bench: the rounds of a split do not keep equally much")
     calls = {}
     for name, once, row, lines in STACK:
-        one = said("mus", once, FEWEST, "stack")
-        calls[name] = one, None, None, None
+        needs = [said("mus", once, FEWEST, "stack"), None, None, None]
         if row:
             rounds, bytes_then = said("mus", row, lines, "rounds"), said("mus", row, lines, "stack")
-            calls[name] = one, rounds, bytes_then, max(one, bytes_then + (MOST_ROUNDS - rounds) * a_round)
+            needs[1:] = rounds, bytes_then, max(needs[0], bytes_then + (MOST_ROUNDS - rounds) * a_round)
+        calls[name] = tuple(map(max, calls[name], needs)) if name in calls else tuple(needs)
     return a_round, calls
 
 

@@ -33,6 +33,10 @@ static void call_strata_project(void) { kept = mus_strata_project(ledger, lines,
 static uint8_t page[MUS_LONGEST_TEXT];
 static void call_sheet(void) { kept = mus_sheet(file, file_length, page, sizeof page).length; }
 
+/* The same file after the byte by which it is walked. */
+static uint8_t walked[1 + sizeof file] = {0x42};
+static void call_sheet_walked(void) { kept = mus_sheet(walked, 1 + file_length, page, sizeof page).length; }
+
 /* A content that is judged: 63 errors among its drawn lines, at an interval of 42 bits, and no line full. */
 static void judged_content(void)
 {
@@ -151,6 +155,9 @@ static void set_deep_file(void)
     call_write();
     file_length = kept;
 }
+
+static void set_walked(void) { judged_content(); memcpy(walked + 1, file, file_length); }
+static void set_walked_deep(void) { set_deep_file(); memcpy(walked + 1, file, file_length); }
 #endif
 
 static const struct row {
@@ -214,6 +221,8 @@ static const struct row {
 #ifndef WITHOUT_SHEET
     {"sheet", judged_content, call_sheet},
     {"sheet-deep", set_deep_file, call_sheet},
+    {"sheet-walked", set_walked, call_sheet_walked},
+    {"sheet-walked-deep", set_walked_deep, call_sheet_walked},
 #endif
     {"size", longest_content, call_size},
     {"start", longest_content, call_start},

@@ -6,7 +6,7 @@
  * its former content, but that a batch of findings (mus_post_all, mus_team_post_all) leaves the pairs before the refused one posted. Where
  * several refusals apply, the first is given in this order: 24, 27, 1, 22, 30, 2, 13; then 3 and 4 line by line; then 5 to 8, 23, 11; then 14
  * and 15 line by line; then 16; then 28. Of a control test: 1, 25, 26. Of findings: 24, 13; then 20, 14 and 15 pair by pair. Of
- * a salvage: 29, 18.
+ * a salvage: 29, 18. Of totals beside the ledger: 2, 13, 21, 20, 3, 4, 18, 31.
  *
  * Money and numbers of draws are 64-bit, money in whole cents. Lines are numbered from 0. An error has a sign: above 0 the line is
  * overstated, too much was claimed; below 0 it is understated, too little; 0 is no error. A list is a pointer and a number of entries;
@@ -29,7 +29,7 @@
  *     mus_board_draw            176   128 + 48 r            4,448
  *     mus_board_project         600   208 + 48 r            4,528
  *     mus_judge               1,448   1,056 + 48 r          5,376
- *     mus_strata_plan         7,792   7,744 + 48 r         12,064
+ *     mus_strata_plan         7,840   7,792 + 48 r         12,112
  *     mus_strata_draw         6,512   6,464 + 48 r         10,784
  *     mus_strata_project     11,184   11,136 + 48 r        15,456
  *     mus_post                   72
@@ -38,6 +38,12 @@
  *     mus_team_draw             176   128 + 48 r            4,448
  *     mus_team_post              72
  *     mus_team_post_all         128
+ *     mus_totals_build           80
+ *     mus_totals_total           40
+ *     mus_totals_find            64
+ *     mus_totals_change          88
+ *     mus_totals_append          88
+ *     mus_totals_check          104
  *     mus_tally_none            296
  *     mus_tally_add           1,752
  *     mus_attribute_size         80
@@ -75,6 +81,10 @@ extern "C" {
 #define MUS_MOST_FILE_LINES UINT64_C(2048)
 #define MUS_LONGEST_FILE UINT64_C(45663)
 
+/* Totals beside the ledger: the entries of the room that one total stands for, and the length of the summary beside a room. */
+#define MUS_PER_BLOCK 256
+#define MUS_SUMMARY_LENGTH(room_length) ((room_length) / MUS_PER_BLOCK + ((room_length) % MUS_PER_BLOCK != 0) + 1)
+
 /* The room that a sheet is printed into: no text is longer. */
 #define MUS_LONGEST_TEXT UINT64_C(184784)
 
@@ -82,7 +92,7 @@ extern "C" {
 enum mus_refusal {
     MUS_ACCEPTED = 0,
     MUS_UNKNOWN_LEVEL = 1,          /* level is none of 99, 95, 90, 85, 80, 75, 70, 60, 50; of a control test none of 99, 95, 90 */
-    MUS_TOO_MANY_LINES = 2,         /* more than MUS_MOST_LINES lines */
+    MUS_TOO_MANY_LINES = 2,         /* more than MUS_MOST_LINES lines; also by an append */
     MUS_VALUE_TOO_LARGE = 3,        /* a book value above MUS_MOST_VALUE; the line */
     MUS_TOTAL_TOO_LARGE = 4,        /* the running total passes MUS_MOST_TOTAL; the line */
     MUS_TOTAL_ZERO = 5,             /* the total is 0 */
@@ -93,14 +103,15 @@ enum mus_refusal {
     MUS_INTERVAL_TOO_LARGE = 10,    /* an interval handed in is above MUS_MOST_INTERVAL: mus_start alone */
     MUS_START_OUT_OF_RANGE = 11,    /* a start is not below its interval, or not 0 where there is none; the stratum, 0 without strata */
     MUS_NO_WORD_PASSES = 12,        /* no random word passes; the number of words lent */
-    MUS_LENGTHS_DIFFER = 13,        /* marks, errors or amounts differ from the ledger in length, starts from counts, or errors found from lines */
+    MUS_LENGTHS_DIFFER = 13,        /* marks, errors or amounts differ from the ledger in length, starts from counts, or errors found from lines; or the count of lines in use passes the room */
     MUS_ERROR_ABOVE_VALUE = 14,     /* the size of an error exceeds its line's value; the line, of findings the pair */
     MUS_ERROR_NOT_DRAWN = 15,       /* an error other than 0 on a line not drawn and not full; the line, of findings the pair */
     MUS_TOO_MANY_ERRORS = 16,       /* more than MUS_MOST_ERRORS drawn lines are overstated */
     MUS_FILE_BREAKS_RULE = 17,      /* the working file breaks a rule; the byte */
-    MUS_ROOM_TOO_SHORT = 18,        /* a lent file buffer or page is too short; the bytes or entries needed */
+    MUS_ROOM_TOO_SHORT = 18,        /* a lent file buffer, page or room is too short; the bytes or entries needed */
     MUS_NO_LEGAL_FILE = 19,         /* the content has no legal file */
-    MUS_LINE_NOT_THERE = 20,        /* a line is not in the ledger; the pair */
+    MUS_LINE_NOT_THERE = 20,        /* a line is not in the ledger; of findings the pair; or it is not in use, or a cent is not below the grand total */
+    MUS_WRONG_SUMMARY_LENGTH = 21,  /* the summary beside a room has the wrong length */
     MUS_STRATA_OUT_OF_RANGE = 22,   /* there are no strata, or more than MUS_MOST_STRATA */
     MUS_TOO_FEW_DRAWS = 23,         /* there are fewer draws than strata with book value */
     MUS_UNKNOWN_TEAM = 24,          /* the team is neither A nor B */
@@ -109,7 +120,8 @@ enum mus_refusal {
     MUS_TOO_MANY_JUDGEMENTS = 27,   /* the tally holds MUS_MOST_JUDGEMENTS already, refused ones included */
     MUS_SUM_TOO_LARGE = 28,         /* a sum of the tally would pass 64 bits */
     MUS_NO_WHOLE_PLAN = 29,         /* no whole record P stands first in a file that is salvaged */
-    MUS_COUNTS_DO_NOT_ADD = 30      /* the counts of the strata do not add to the ledger's lines */
+    MUS_COUNTS_DO_NOT_ADD = 30,     /* the counts of the strata do not add to the ledger's lines */
+    MUS_WRONG_FIGURE = 31           /* by the summary's figures no line is found, or one would fall below 0 or pass 64 bits; the block, the grand total one more */
 };
 
 /* What a mark says of its line; of two teams on one ledger, what a team's own two bits of it say. */
@@ -234,6 +246,37 @@ struct mus_post_result {
     uint64_t posted;         /* how many pairs were posted */
 };
 
+struct mus_totals_build_result {
+    uint64_t refusal, place;
+    uint64_t total; /* the grand total */
+};
+
+struct mus_totals_total_result {
+    uint64_t refusal, place;
+    uint64_t total; /* the grand total as it stands */
+};
+
+struct mus_totals_find_result {
+    uint64_t refusal, place;
+    uint64_t line; /* the line that holds the cent */
+};
+
+struct mus_totals_change_result {
+    uint64_t refusal, place;
+    uint64_t total; /* the new grand total */
+};
+
+struct mus_totals_append_result {
+    uint64_t refusal, place;
+    uint64_t count; /* the new count of lines in use, for the caller to keep */
+};
+
+struct mus_totals_check_result {
+    uint64_t refusal, place;
+    uint64_t wrong; /* 1 where a figure is wrong, 0 where the summary agrees */
+    uint64_t block; /* the first block whose figure is wrong; the grand total counts as one more */
+};
+
 struct mus_read_result {
     uint64_t refusal, place;
     uint64_t level, te, ae;
@@ -344,6 +387,31 @@ struct mus_draw_result mus_team_draw(uint8_t team, const uint64_t *ledger, size_
  * posts nothing, then those of the plain call. */
 struct mus_post_result mus_team_post(uint8_t team, const uint64_t *ledger, size_t ledger_length, const uint8_t *marks, size_t marks_length, int64_t *errors, size_t errors_length, uint64_t line, int64_t error);
 struct mus_post_result mus_team_post_all(uint8_t team, const uint64_t *ledger, size_t ledger_length, const uint8_t *marks, size_t marks_length, int64_t *errors, size_t errors_length, const uint64_t *lines, size_t lines_length, const int64_t *found, size_t found_length);
+
+/* Totals beside the ledger: room has entries of which the first count are lines in use; the others are not looked at. summary has
+ * MUS_SUMMARY_LENGTH(room_length) entries: the total of the lines in use of each MUS_PER_BLOCK entries of the room, then the grand total. While it agrees
+ * with its ledger, total and line are those of the ledger alone, and a change or an append keeps it so; otherwise they follow from its figures as
+ * they stand. A change and an append judge the new value and the new grand total alone, and neither they nor mus_totals_total walk ledger or summary.
+ *
+ * Builds the summary: every entry of it is written. Refusals 2, 13, 21, 3, 4. */
+struct mus_totals_build_result mus_totals_build(const uint64_t *room, size_t room_length, size_t count, uint64_t *summary, size_t summary_length);
+
+/* The grand total as it stands. Refusals 2, 13, 21. */
+struct mus_totals_total_result mus_totals_total(const uint64_t *room, size_t room_length, size_t count, const uint64_t *summary, size_t summary_length);
+
+/* The line of the whole, unsplit ledger that holds a cent, counted from 0: block by block by the summary, then line by line in that block. Refusals
+ * 2, 13, 21, 20, 31 with the block in which no line is found, or with the number of blocks. */
+struct mus_totals_find_result mus_totals_find(const uint64_t *room, size_t room_length, size_t count, const uint64_t *summary, size_t summary_length, uint64_t cent);
+
+/* Changes a line in use to a new value, its block's figure and the grand total with it. Refusals 2, 13, 21, 20, 3, 4, 31: the line's block first. */
+struct mus_totals_change_result mus_totals_change(uint64_t *room, size_t room_length, size_t count, uint64_t *summary, size_t summary_length, size_t line, uint64_t value);
+
+/* Appends a line with a value after those in use; the next call is made with the count that it answers. Refusals 2 (also where count is
+ * MUS_MOST_LINES), 13, 21, 3, 4, 18 with the entries needed, 31: the line's block first. */
+struct mus_totals_append_result mus_totals_append(uint64_t *room, size_t room_length, size_t count, uint64_t *summary, size_t summary_length, uint64_t value);
+
+/* Whether the summary agrees with its ledger. Refusals 2, 13, 21, 3, 4. */
+struct mus_totals_check_result mus_totals_check(const uint64_t *room, size_t room_length, size_t count, const uint64_t *summary, size_t summary_length);
 
 /* The tally before the first judgement. */
 struct mus_tally mus_tally_none(void);

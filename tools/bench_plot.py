@@ -23,7 +23,7 @@ def plot(rows, sizes, counts):
     for lines in sizes:
         across = at(lines, low)[0]
         parts.append(f'<text x="{across:.1f}" y="{top + 380}" text-anchor="middle">{lines:,} lines</text>')
-    colours = ["#555", "#1b6ca8", "#2a9d8f", "#7b2cbf", "#e76f51", "#c9184a", "#8d99ae", "#b08900", "#457b9d", "#6d4c41", "#588157", "#3a0ca3", "#d4a373", "#006d77", "#9d0208", "#0077b6", "#bc4749"]
+    colours = ["#555", "#1b6ca8", "#2a9d8f", "#7b2cbf", "#e76f51", "#c9184a", "#8d99ae", "#b08900", "#457b9d", "#6d4c41", "#588157", "#3a0ca3", "#d4a373", "#006d77", "#9d0208", "#0077b6", "#bc4749", "#4a4e69", "#80b918"]
     ends = []
     for (row, name), colour in zip(rows, colours):
         for which, dash in ((0, ""), (1, ' stroke-dasharray="5 4"')):

@@ -8,7 +8,7 @@
 import sys
 
 import reference
-from mistakes import PAGE, ROOT, with_tables
+from pages import ANSWERS, PAGE, ROOT, is_write, keep_tables, look_for
 from programmes import table
 from reference_findings import pairs_posted, posted
 from self_test import PRACTICE_LEDGER, marks_of
@@ -103,30 +103,15 @@ def check_exercise():
         f"{turned[0]} would stand",
     )
     look_for([shown(EXERCISE)], "EXERCISES", (ROOT / "docs/EXERCISES.md").read_text())
-    look_for(told, "ANSWERS", (ROOT / "docs/ANSWERS.md").read_text())
-
-
-def look_for(told, name, page):
-    for words in told:
-        if words not in page:
-            sys.exit(f"docs/{name}.md does not tell: {words}")
+    look_for(told, "ANSWERS", ANSWERS.read_text())
 
 
 def main(arguments):
-    if arguments not in (["write"], ["check"]):
-        sys.exit(__doc__)
-    ways, page = (one_by_one(), batches_table()), PAGE.read_text()
-    check_words(page)
+    write = is_write(arguments, __doc__)
+    check_words(PAGE.read_text())
     check_exercise()
-    made = with_tables(page, ["\n".join(lines) for lines in ways])
-    if arguments == ["write"]:
-        PAGE.write_text(made)
-        TEXT.write_text(example_text())
-    elif made != page:
-        sys.exit("docs/HANDBOOK.md does not hold what tools/findings.py writes")
-    elif TEXT.read_text() != example_text():
-        sys.exit("examples/c/findings.out is not what the reference gives")
-    print(f"findings: {len(ways)} tables and the example's text as computed")
+    made = keep_tables(write, "findings.py", [one_by_one(), batches_table()], {TEXT: example_text()})
+    print(f"findings: {made} tables and the example's text as computed")
 
 
 if __name__ == "__main__":

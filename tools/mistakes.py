@@ -10,15 +10,13 @@ the right draw takes. Where a mistake draws other lines, an error that it does n
 """
 
 import itertools
-import pathlib
 import sys
 
 import reference
 import samples
 import self_test
+from pages import ROOT, is_write, keep_tables
 
-ROOT = pathlib.Path(__file__).resolve().parent.parent
-PAGE = ROOT / "docs" / "HANDBOOK.md"
 TOP = 2**64
 GRANTS = [500, 120, 0, 80, 300]
 
@@ -221,35 +219,11 @@ def netted(case):
     return ["| | projected | precision | upper limit | TE | verdict |", "|---|---|---|---|---|---|", *rows]
 
 
-def with_tables(page, tables):
-    """The page with each table in the place of the next one that has its heading."""
-    lines, at = page.split("\n"), 0
-    for table in tables:
-        new = table.split("\n")
-        while lines[at : at + 2] != new[:2]:
-            at += 1
-            if at == len(lines):
-                sys.exit(f"docs/HANDBOOK.md has no table with the heading {new[0]}")
-        end = next((i for i in range(at, len(lines)) if not lines[i].startswith("|")), len(lines))
-        lines[at:end] = new
-        at += len(new)
-    return "\n".join(lines)
-
-
 def main(arguments):
-    if arguments not in (["write"], ["check"]):
-        sys.exit(__doc__)
-    case = Case("large-grants.txt")
+    write, case = is_write(arguments, __doc__), Case("large-grants.txt")
     rounds, case_under = (shrinking(GRANTS, 4), shrinking(case.ledger, case.n)), Case("understated-full.txt")
     ways = netted(case_under), *rounds, at_its_level(case), over_starts(case), at_level_50(case), practice_starts()
-    tables = ["\n".join(lines) for lines in ways]
-    page = PAGE.read_text()
-    made = with_tables(page, tables)
-    if arguments == ["write"]:
-        PAGE.write_text(made)
-    elif page != made:
-        sys.exit("docs/HANDBOOK.md does not hold the tables that tools/mistakes.py writes")
-    print(f"mistakes: {len(tables)} tables as computed")
+    print(f"mistakes: {keep_tables(write, 'mistakes.py', ways)} tables as computed")
 
 
 if __name__ == "__main__":

@@ -11,7 +11,7 @@ from fractions import Fraction
 import reference
 import reference_programmes
 import reference_strata
-from mistakes import PAGE, ROOT, with_tables
+from pages import ROOT, is_write, keep_tables
 from self_test_strata import COUNTS, DRAWS, ERRORS, LEDGER, PROGRAMMES, STARTS
 
 TEXT = ROOT / "examples/c/programmes.out"
@@ -142,17 +142,11 @@ def check_sample():
 
 
 def main(arguments):
-    if arguments not in (["write"], ["check"]):
-        sys.exit(__doc__)
+    write = is_write(arguments, __doc__)
     check_sample()
     ways = ledger_table(), shares_table(), splits_table(), amounts_table(), projection_table(), limits_table()
-    made = {PAGE: with_tables(PAGE.read_text(), ["\n".join(lines) for lines in ways]), TEXT: "\n".join([*text(), ""])}
-    for path, content in made.items():
-        if arguments == ["write"]:
-            path.write_text(content)
-        elif not path.exists() or path.read_text() != content:
-            sys.exit(f"{path.relative_to(ROOT)} does not hold what tools/programmes.py writes")
-    print(f"programmes: {len(ways)} tables and the example's text as computed")
+    made = keep_tables(write, "programmes.py", ways, {TEXT: "\n".join([*text(), ""])})
+    print(f"programmes: {made} tables and the example's text as computed")
 
 
 if __name__ == "__main__":

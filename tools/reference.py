@@ -5,7 +5,7 @@ It is written from the rules alone, in exact whole numbers, to be read beside th
 proved program, so that the two can be held against each other. The operations by strata stand in tools/reference_strata.py, the
 program for them in tools/reference_programmes.py, the tally of a season in tools/reference_season.py, the attribute job aid in tools/reference_attributes.py,
 findings by the batch in tools/reference_findings.py, two teams on one ledger in tools/reference_teams.py,
-the blackboard method in tools/reference_board.py, the salvage of a working file in tools/reference_salvage.py.
+the blackboard method in tools/reference_board.py, the salvage of a working file in tools/reference_salvage.py, totals beside the ledger in tools/reference_totals.py.
 
 An operation takes its inputs and its lent buffers (lists of numbers, or bytearrays), and returns its answer or a
 Refusal (number, place). It stores into a lent buffer only after its last check: a refused call leaves every buffer, but that a batch of findings
@@ -178,19 +178,25 @@ def check_level(level):
         raise Refused(1, 0)
 
 
+def lines_total(lines):
+    """The total of lines, judged one by one."""
+    total = 0
+    for line, value in enumerate(lines):
+        if value > MOST_VALUE:
+            raise Refused(3, line)
+        total += value
+        if total > MOST_TOTAL:
+            raise Refused(4, line)
+    return total
+
+
 def ledger_total(ledger, *beside, agree=True):
     """The total of a legal ledger; beside are the marks, errors or amounts lent with it, and whatever else is lent agrees in length."""
     if len(ledger) > MOST_LINES:
         raise Refused(2, 0)
     if not agree or any(len(entries) != len(ledger) for entries in beside):
         raise Refused(13, 0)
-    total = 0
-    for line, value in enumerate(ledger):
-        if value > MOST_VALUE:
-            raise Refused(3, line)
-        total += value
-        if total > MOST_TOTAL:
-            raise Refused(4, line)
+    total = lines_total(ledger)
     if total == 0:
         raise Refused(5, 0)
     return total
@@ -631,6 +637,7 @@ def main(arguments):
         import self_test_season
         import self_test_strata
         import self_test_teams
+        import self_test_totals
 
         self_test.run()
         self_test_strata.run()
@@ -641,6 +648,7 @@ def main(arguments):
         self_test_teams.run()
         self_test_board.run()
         self_test_salvage.run()
+        self_test_totals.run()
     elif arguments == ["desk"]:
         sys.stdout.buffer.write(desk(sys.stdin.buffer.read()))
     elif arguments == ["factors"]:

@@ -9,13 +9,12 @@ of exercise 36 in docs/ANSWERS.md.
 import sys
 
 import samples
-from mistakes import PAGE, with_tables
+from pages import ANSWERS, PAGE, is_write, keep_tables, look_for
 from programmes import table
 from reference import number_at
 from reference_salvage import LONGEST_FILE, closed, longest_run, said_of, salvage, whole_records
 
 CUT, LEGAL = samples.SAMPLES / "salvage-cut.hex", samples.SAMPLES / "salvage-legal.hex"
-ANSWERS = PAGE.with_name("ANSWERS.md")
 
 # Where exercise 36 cuts the legal file.
 CUTS = 110, 60, 36, 18, 17
@@ -68,9 +67,7 @@ def check_words(file, page):
         f"kept {answer.kept} dropped {answer.dropped} lines {answer.lines} sum {answer.sum}",
         f"{answer.lines} lines and {answer.sum} cents",
     )
-    for words in told:
-        if words not in page:
-            sys.exit(f"docs/HANDBOOK.md does not tell: {words}")
+    look_for(told, "HANDBOOK", page)
 
 
 def cuts_table(file):
@@ -88,25 +85,12 @@ def check_exchanged(file, page):
         sys.exit(f"docs/ANSWERS.md does not tell: {told}, of {answer}")
 
 
-def with_page(path, tables, write):
-    """The tables in their page, written or compared."""
-    page = path.read_text()
-    made = with_tables(page, ["\n".join(lines) for lines in tables])
-    if write:
-        path.write_text(made)
-    elif made != page:
-        sys.exit(f"docs/{path.name} does not hold what tools/salvages.py writes")
-    return len(tables)
-
-
 def main(arguments):
-    if arguments not in (["write"], ["check"]):
-        sys.exit(__doc__)
-    file, legal = samples.file_of(CUT), samples.file_of(LEGAL)
+    write, file, legal = is_write(arguments, __doc__), samples.file_of(CUT), samples.file_of(LEGAL)
     check_words(file, PAGE.read_text())
     check_exchanged(legal, ANSWERS.read_text())
-    pages = (PAGE, [records_table(file), files_table(samples.files_to_mend())]), (ANSWERS, [cuts_table(legal)])
-    made = sum(with_page(path, tables, arguments == ["write"]) for path, tables in pages)
+    made = keep_tables(write, "salvages.py", [records_table(file), files_table(samples.files_to_mend())])
+    made += keep_tables(write, "salvages.py", [cuts_table(legal)], path=ANSWERS)
     print(f"salvages: {made} tables as computed")
 
 

@@ -10,7 +10,7 @@ from fractions import Fraction
 
 import reference_season
 import samples
-from mistakes import PAGE, with_tables
+from pages import PAGE, is_write, keep_tables, look_for
 from programmes import table
 from reference_season import LEVELS, NOT_JUDGED, Season
 
@@ -59,25 +59,16 @@ def check_words(entries, page):
         f"whether {second.limit:,} × {first.book:,} is more than {first.limit:,} × {second.book:,}",
         f"{max(entry.limit for entry in entries if entry):,} is the largest limit of the five, and the practice ledger leads with {third.limit}: of a book of {third.book}.",
     )
-    for words in told:
-        if words not in page:
-            sys.exit(f"docs/HANDBOOK.md does not tell: {words}")
+    look_for(told, "HANDBOOK", page)
 
 
 def main(arguments):
-    if arguments not in (["write"], ["check"]):
-        sys.exit(__doc__)
+    write = is_write(arguments, __doc__)
     names = [path.stem for path in samples.named_in(FIVE)]
     entries = list(reference_season.files_of(samples.row_of(FIVE)))
-    ways = judgements_table(names, entries), steps_table(names, entries), counts_table(entries)
-    page = PAGE.read_text()
-    check_words(entries, page)
-    made = with_tables(page, ["\n".join(lines) for lines in ways])
-    if arguments == ["write"]:
-        PAGE.write_text(made)
-    elif made != page:
-        sys.exit("docs/HANDBOOK.md does not hold what tools/seasons.py writes")
-    print(f"seasons: {len(ways)} tables as computed")
+    check_words(entries, PAGE.read_text())
+    made = keep_tables(write, "seasons.py", [judgements_table(names, entries), steps_table(names, entries), counts_table(entries)])
+    print(f"seasons: {made} tables as computed")
 
 
 if __name__ == "__main__":

@@ -8,8 +8,8 @@
 import sys
 
 import reference
-from findings import answered, entries, look_for, shown
-from mistakes import PAGE, ROOT, with_tables
+from findings import answered, entries, shown
+from pages import ANSWERS, PAGE, ROOT, is_write, keep_tables, look_for
 from programmes import table
 from reference_findings import pairs_posted
 from reference_teams import TEAM_A, TEAM_B, own_bits, put_own, team_draw, team_post_all, team_split
@@ -140,24 +140,15 @@ def check_exercise():
         f"they are {entries(threes)}, and B's batch is `{answered(posted(TEAM_B, threes, EXERCISE_PAIRS)[0])}`",
     )
     look_for([entries(EXERCISE_TABLE), shown(EXERCISE_PAIRS)], "EXERCISES", (ROOT / "docs/EXERCISES.md").read_text())
-    look_for(told, "ANSWERS", (ROOT / "docs/ANSWERS.md").read_text())
+    look_for(told, "ANSWERS", ANSWERS.read_text())
 
 
 def main(arguments):
-    if arguments not in (["write"], ["check"]):
-        sys.exit(__doc__)
-    ways, page = (bytes_table(), calls_table(), findings_table()), PAGE.read_text()
-    check_words(page)
+    write = is_write(arguments, __doc__)
+    check_words(PAGE.read_text())
     check_exercise()
-    made = with_tables(page, ["\n".join(lines) for lines in ways])
-    if arguments == ["write"]:
-        PAGE.write_text(made)
-        TEXT.write_text(example_text())
-    elif made != page:
-        sys.exit("docs/HANDBOOK.md does not hold what tools/teams.py writes")
-    elif TEXT.read_text() != example_text():
-        sys.exit("examples/c/teams.out is not what the reference gives")
-    print(f"teams: {len(ways)} tables and the example's text as computed")
+    made = keep_tables(write, "teams.py", [bytes_table(), calls_table(), findings_table()], {TEXT: example_text()})
+    print(f"teams: {made} tables and the example's text as computed")
 
 
 if __name__ == "__main__":

@@ -17,6 +17,7 @@ from vector_season import season_cases
 from vector_signed import signed_cases
 from vector_strata import strata_cases
 from vector_teams import team_cases
+from vector_totals import totals_cases
 from vector_verdicts import verdict_cases, verdict_edges
 from vector_wide import wide_cases
 
@@ -202,7 +203,7 @@ def every_case():
     ways += [verdict_cases(), signed_cases(Seeded(23)), kind_cases(Seeded(24))]
     ways += [strata_cases(Seeded(25))] if WITH_STRATA else []
     ways += [season_cases(Seeded(26)), attribute_cases(), findings_cases(Seeded(27)), team_cases(Seeded(28)), board_cases(Seeded(29))]
-    ways += [salvage_cases(Seeded(30))]
+    ways += [salvage_cases(Seeded(30)), totals_cases(Seeded(31))]
     for way in ways:
         for case in way:
             if not hasattr(case, "ledger") or case.ledger.count <= LARGEST_LEDGER:

@@ -9,7 +9,7 @@ import sys
 
 import reference
 import reference_board
-from mistakes import PAGE, with_tables
+from pages import PAGE, is_write, keep_tables, look_for
 from programmes import table
 from self_test import PRACTICE_ERRORS, PRACTICE_LEDGER, marks_of
 
@@ -41,22 +41,13 @@ def check_words(page):
         f"The marks are {', '.join(map(str, marks))}",
         f"the projected error is {projection.sampled_sum} with m = {projection.m}",
     )
-    for words in told:
-        if words not in page:
-            sys.exit(f"docs/HANDBOOK.md does not tell: {words}")
+    look_for(told, "HANDBOOK", page)
 
 
 def main(arguments):
-    if arguments not in (["write"], ["check"]):
-        sys.exit(__doc__)
-    page = PAGE.read_text()
-    check_words(page)
-    made = with_tables(page, ["\n".join(walk_table())])
-    if arguments == ["write"]:
-        PAGE.write_text(made)
-    elif made != page:
-        sys.exit("docs/HANDBOOK.md does not hold what tools/walked.py writes")
-    print("walked: 1 table as computed")
+    write = is_write(arguments, __doc__)
+    check_words(PAGE.read_text())
+    print(f"walked: {keep_tables(write, 'walked.py', [walk_table()])} table as computed")
 
 
 if __name__ == "__main__":

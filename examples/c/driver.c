@@ -496,6 +496,7 @@ int main(int argc, char **argv)
     team_cases();
     board_cases();
     salvage_cases();
+    totals_cases();
 #ifndef WITHOUT_SHEET
     sheet_cases();
     board_sheet_cases();

@@ -31,6 +31,9 @@ void board_cases(void);
 /* The salvage of a working file: cut, with an old Z, each refusal, and what a refused call leaves. */
 void salvage_cases(void);
 
+/* Totals beside the ledger: a worked room, each refusal, every cent beside a scan, and a summary kept right. */
+void totals_cases(void);
+
 /* Stored cases of these operations, for run_vectors. */
 void strata_plan_case(void);
 void strata_draw_case(void);
@@ -45,6 +48,12 @@ void team_post_all_case(void);
 void board_draw_case(void);
 void board_project_case(void);
 void salvage_case(void);
+void totals_build_case(void);
+void totals_total_case(void);
+void totals_find_case(void);
+void totals_change_case(void);
+void totals_append_case(void);
+void totals_check_case(void);
 
 /* Runs each case of one file through the C interface and compares its line with the other file's: docs/VECTORS.md. */
 void run_vectors(const char *cases, const char *answers);

@@ -132,7 +132,8 @@ static void run_case(uint64_t place, FILE *answers)
 {
     static void (*const operations[])(void) = {size_case, split_case, start_case, draw_case, project_case, judge_case, read_case, write_case, lines_case,
         strata_plan_case, strata_draw_case, strata_project_case, tally_case, attribute_size_case, attribute_bound_case,
-        post_case, post_all_case, team_split_case, team_draw_case, team_post_case, team_post_all_case, board_draw_case, board_project_case, salvage_case};
+        post_case, post_all_case, team_split_case, team_draw_case, team_post_case, team_post_all_case, board_draw_case, board_project_case, salvage_case,
+        totals_build_case, totals_total_case, totals_find_case, totals_change_case, totals_append_case, totals_check_case};
     char what[40];
     say_place(place);
     if (operation >= 1 && operation <= sizeof operations / sizeof operations[0] && operations[operation - 1] != NULL) operations[operation - 1]();

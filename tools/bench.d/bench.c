@@ -33,6 +33,10 @@ static void call_strata_project(void) { kept = mus_strata_project(ledger, lines,
 static uint8_t page[MUS_LONGEST_TEXT];
 static void call_sheet(void) { kept = mus_sheet(file, file_length, page, sizeof page).length; }
 
+/* The same file after the byte by which it is walked. */
+static uint8_t walked[1 + sizeof file] = {0x42};
+static void call_sheet_walked(void) { kept = mus_sheet(walked, 1 + file_length, page, sizeof page).length; }
+
 /* A content that is judged: 63 errors among its drawn lines, at an interval of 42 bits, and no line full. */
 static void judged_content(void)
 {
@@ -111,6 +115,34 @@ static void call_team_draw(void) { kept = mus_team_draw(MUS_TEAM_B, ledger, line
 static void call_team_post(void) { kept = mus_team_post(MUS_TEAM_B, ledger, lines, marks, lines, errors, lines, 7, -7).posted; }
 static void call_team_post_all(void) { kept = mus_team_post_all(MUS_TEAM_B, ledger, lines, marks, lines, errors, lines, posted_lines, PAIRS, found, PAIRS).posted; }
 
+/* Totals beside the ledger, all lines in use but for an append; the cent that is asked for is the last, so that a scan and the search by blocks go furthest. */
+static uint64_t summary[MUS_SUMMARY_LENGTH(MOST)], last_cent;
+static size_t figures;
+
+static void set_totals(void)
+{
+    plain_ledger();
+    figures = MUS_SUMMARY_LENGTH(lines);
+    last_cent = mus_totals_build(ledger, lines, lines, summary, figures).total - 1;
+}
+
+static void set_append(void) { set_totals(); kept = mus_totals_build(ledger, lines, lines - 1, summary, figures).total; }
+static void call_totals_build(void) { kept = mus_totals_build(ledger, lines, lines, summary, figures).total; }
+static void call_totals_total(void) { kept = mus_totals_total(ledger, lines, lines, summary, figures).total; }
+static void call_totals_find(void) { kept = mus_totals_find(ledger, lines, lines, summary, figures, last_cent).line; }
+static void call_totals_change(void) { kept = mus_totals_change(ledger, lines, lines, summary, figures, lines / 2, 777).total; }
+static void call_totals_append(void) { kept = mus_totals_append(ledger, lines, lines - 1, summary, figures, 777).count; }
+static void call_totals_check(void) { kept = mus_totals_check(ledger, lines, lines, summary, figures).wrong; }
+
+/* What the search by blocks is held against: line by line from the first. Not of the library, and the same over plain C. */
+static void call_scan(void)
+{
+    uint64_t rest = last_cent;
+    size_t line = 0;
+    while (line < lines && rest >= ledger[line]) rest -= ledger[line++];
+    kept = line;
+}
+
 /* The last of either table. */
 static void set_attributes(void) { }
 static void call_attribute_size(void) { kept = mus_attribute_size(99, 10).items; }
@@ -123,6 +155,9 @@ static void set_deep_file(void)
     call_write();
     file_length = kept;
 }
+
+static void set_walked(void) { judged_content(); memcpy(walked + 1, file, file_length); }
+static void set_walked_deep(void) { set_deep_file(); memcpy(walked + 1, file, file_length); }
 #endif
 
 static const struct row {
@@ -169,6 +204,13 @@ static const struct row {
     {"team-draw-deep", set_teams_deep, call_team_draw},
     {"team-post", set_team_findings, call_team_post},
     {"team-post-all", set_team_findings, call_team_post_all},
+    {"totals-build", set_totals, call_totals_build},
+    {"totals-total", set_totals, call_totals_total},
+    {"totals-find", set_totals, call_totals_find},
+    {"totals-change", set_totals, call_totals_change},
+    {"totals-append", set_append, call_totals_append},
+    {"totals-check", set_totals, call_totals_check},
+    {"scan", set_totals, call_scan},
     {"tally-none", set_season, call_tally_none},
     {"tally-add", set_season, call_tally_add},
     {"attribute-size", set_attributes, call_attribute_size},
@@ -179,6 +221,8 @@ static const struct row {
 #ifndef WITHOUT_SHEET
     {"sheet", judged_content, call_sheet},
     {"sheet-deep", set_deep_file, call_sheet},
+    {"sheet-walked", set_walked, call_sheet_walked},
+    {"sheet-walked-deep", set_walked_deep, call_sheet_walked},
 #endif
     {"size", longest_content, call_size},
     {"start", longest_content, call_start},

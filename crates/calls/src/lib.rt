@@ -12,6 +12,7 @@ use season::Tally;
 
 pub mod board; // board.rt: the blackboard method
 pub mod file; // file.rt: the working file and its salvage
+pub mod summary; // summary.rt: totals beside the ledger
 
 // An answer of figures alone.
 fn answer(refusal: u64, place: u64, figures: [u64; 5], count: usize) -> Answer {

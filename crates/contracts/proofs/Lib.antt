@@ -1,2 +1,4 @@
 -- The proof that no contract leaves freedom.
+mod Strata
+mod Totals
 pub mod Unique

@@ -18,11 +18,6 @@ use Rattle.project.specs.declared.ProjectAnswer.{ProjectAnswer}
 use Rattle.project.specs.declared.ProjectAnswer.the-variants as project
 use Rattle.judge.specs.declared.JudgeAnswer.{JudgeAnswer}
 use Rattle.judge.specs.declared.JudgeAnswer.the-variants as judge
-use Rattle.strata.specs.declared.Row.{Row}
-use Rattle.start.specs.declared.Chosen.{Chosen}
-use Rattle.strata.specs.declared.StrataAnswer.{StrataAnswer}
-use Rattle.strata.specs.declared.StrataAnswer.the-variants as strata
-use Rattle.stratified.specs.declared.projection.ProjectionRow.{ProjectionRow}
 use Rattle.factors.specs.Levels.{levelSays}
 use Rattle.ledger.specs.Ledger.{ledgerSays}
 use Rattle.size.specs.Size.{sizeSays, SizePromise}
@@ -30,13 +25,10 @@ use Rattle.split.specs.Split.{SplitPromise}
 use Rattle.split.proofs.Once.{split-answer, split-once}
 use Rattle.start.specs.Start.{startSays, StartPromise}
 use Rattle.draw.specs.Draw.{DrawPromise}
-use Rattle.draw.proofs.Once.{draw-answer, draw-once}
+use Rattle.draw.proofs.Once.{draw-once}
 use Rattle.project.specs.Project.{projectSays, ProjectPromise}
 use Rattle.lines.specs.Each.{LinesPromise}
 use Rattle.judge.specs.Judge.{judgeSays, JudgePromise}
-use Rattle.strata.specs.Strata.{strataSays, PlanPromise}
-use Rattle.stratified.specs.Marks.{DrawStrataPromise}
-use Rattle.stratified.specs.Projection.{ProjectStrataPromise}
 use Rattle.workfile.specs.declared.Plan.{Plan}
 use Rattle.workfile.specs.Promises.{ReadPromise, WritePromise}
 use Rattle.workfile.proofs.Promises.{read-once, write-once}
@@ -48,7 +40,6 @@ use Rattle.sheet.specs.Sheet.{SheetPromise}
 use Rattle.sheet.proofs.OneText.{sheet-once}
 use Rattle.salvaging.proofs.Laws.{salvage-once}
 use Rattle.notation.proofs.Laws.{parsed-once}
-use Rattle.starts.specs.Starts.{StartsPromise}
 use Rattle.reply.proofs.Laws.{reply-once}
 use Rattle.season.proofs.Laws.{add-once}
 use Rattle.attributes.proofs.Answers.{items-once, bound-once}
@@ -59,6 +50,8 @@ use Rattle.findings.proofs.Answers.{post-once, post-all-once}
 use Rattle.teams.proofs.Laws.{team-split-once, team-draw-once, team-post-once, team-post-all-once}
 use Rattle.results.specs.Seen.{Sees}
 use Rattle.contracts.specs.Unique.{One, OneWith, Three, NoFreedom}
+use Rattle.contracts.proofs.Strata.{plan-once, starts-once, strata-draw-once, strata-project-once}
+use Rattle.contracts.proofs.Totals.{builds-once, totals-once, finds-once, changes-once, appends-once, checks-once}
 
 -- the answers of the steps
 level-made : (r : LevelAnswer) → Made level.Known level.Refused r
@@ -85,17 +78,9 @@ judge-made : (r : JudgeAnswer) → Made judge.Judged judge.Refused r
 judge-made (judge.Judged a) = good a
 judge-made (judge.Refused why) = bad why
 
-strata-made : (r : StrataAnswer) → Made strata.Strata strata.Refused r
-strata-made (strata.Strata a) = good a
-strata-made (strata.Refused why) = bad why
-
 -- an answer of the projection is what it says
 project-answer : {o : Outcome Projection} (r s : ProjectAnswer) → projectSays r ≡ o → projectSays s ≡ o → r ≡ s
 project-answer = one-answer projectSays project.Projected project.Refused (λ a. refl) (λ why. refl) project-made
-
--- and of the plan and the projection by strata
-strata-answer : {o : Outcome ℕ} (r s : StrataAnswer) → strataSays r ≡ o → strataSays s ≡ o → r ≡ s
-strata-answer = one-answer strataSays strata.Strata strata.Refused (λ a. refl) (λ why. refl) strata-made
 
 -- the operations that C has too
 size-once : (percent total te ae : ℕ) → One (SizePromise percent total te ae)
@@ -118,27 +103,6 @@ lines-once _ _ _ _ _ r s _ _ p q = (project-answer r s (p .answer) (q .answer), 
 
 judge-once : (percent : ℕ) (ledger : List ℕ) (n start : ℕ) (errors : List ℤ) (te : ℕ) → One (JudgePromise percent ledger n start errors te)
 judge-once _ _ _ _ _ _ r s p q = one-answer judgeSays judge.Judged judge.Refused (λ a. refl) (λ why. refl) judge-made r s (p .answer) (q .answer)
-
--- those by strata: whatever the outcome is, it has one answer with one array of rows
-plan-once : (o : Outcome (List Row)) → One (PlanPromise o)
-plan-once _ r s p q = λ i. record { answer = strata-answer (r .answer) (s .answer) (p .answer) (q .answer) i; rows = (p .rows ∙ sym (q .rows)) i }
-
-starts-once : (o : Outcome (List Chosen)) → One (StartsPromise o)
-starts-once _ r s p q =
-    λ i. record { answer = strata-answer (r .answer) (s .answer) (p .answer) (q .answer) i; starts = (p .starts ∙ sym (q .starts)) i; words = (p .words ∙ sym (q .words)) i }
-
-strata-draw-once : (ledger counts : List ℕ) (n : ℕ) (starts marks : List ℕ) → OneWith (DrawStrataPromise ledger counts n starts marks)
-strata-draw-once _ _ _ _ _ r s _ _ p q = (draw-answer r s (p .answer) (q .answer), p .marks-left ∙ sym (q .marks-left))
-
-strata-project-once : (o : Outcome (List ProjectionRow)) → One (ProjectStrataPromise o)
-strata-project-once _ r s p q =
-    λ i. record {
-      answer = strata-answer (r .answer) (s .answer) (p .answer) (q .answer) i;
-      over = (p .over ∙ sym (q .over)) i;
-      under = (p .under ∙ sym (q .under)) i;
-      net = (p .net ∙ sym (q .net)) i;
-      rows = (p .rows ∙ sym (q .rows)) i;
-    }
 
 posts-once : (ledger marks : List ℕ) (errors : List ℤ) (line : ℕ) (error : ℤ) → OneWith (PostPromise ledger marks errors line error)
 posts-once _ _ _ _ _ _ _ _ _ p q = post-once p q
@@ -206,6 +170,12 @@ no-freedom =
       team-draw = λ _ _ _ _ _ _ _ _ _ p q. team-draw-once p q;
       team-post = λ _ _ marks _ _ _ _ _ _ _ p q. team-post-once marks p q;
       team-post-all = λ _ _ marks _ _ _ _ _ _ _ p q. team-post-all-once marks p q;
+      totals-build = builds-once;
+      totals-total = totals-once;
+      totals-find = finds-once;
+      totals-change = changes-once;
+      totals-append = appends-once;
+      totals-check = checks-once;
       read = reads-once;
       write = writes-once;
       write-then-read = written-then-read-once;
@@ -241,6 +211,12 @@ no-freedom =
       mus-team-draw = λ _ _ _ _ _. sees-with (λ _ _ _ _ p q. team-draw-once p q);
       mus-team-post = λ _ _ marks _ _ _. sees-with (λ _ _ _ _ p q. team-post-once marks p q);
       mus-team-post-all = λ _ _ marks _ _ _. sees-with (λ _ _ _ _ p q. team-post-all-once marks p q);
+      mus-totals-build = λ room count summary. sees-with (builds-once room count summary);
+      mus-totals-total = λ room count summary. sees (totals-once room count summary);
+      mus-totals-find = λ room count summary cent. sees (finds-once room count summary cent);
+      mus-totals-change = λ room count summary line value. sees-with (changes-once room count summary line value);
+      mus-totals-append = λ room count summary value. sees-with (appends-once room count summary value);
+      mus-totals-check = λ room count summary. sees (checks-once room count summary);
       mus-read = λ file words values errors. sees-with (reads-once file words values errors);
       mus-write = λ plan words values errors file. sees-with (writes-once plan words values errors file);
       mus-salvage = λ _ _. sees-with (λ _ _ _ _ p q. salvage-once p q);

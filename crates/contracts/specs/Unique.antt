@@ -21,6 +21,10 @@ use Rattle.blackboard.specs.Project.{boardProjectSays, BoardProjectPromise}
 use Rattle.findings.specs.Findings.{postSays, PostPromise}
 use Rattle.findings.specs.Batch.{PostAllPromise}
 use Rattle.teams.specs.Teams.{TeamSplitPromise, TeamDrawPromise, TeamPostPromise, TeamPostAllPromise}
+use Rattle.totals.specs.Summary.{totalSays, BuildPromise, TotalPromise}
+use Rattle.totals.specs.Lookup.{findSays, FindPromise}
+use Rattle.totals.specs.Comparison.{checkSays, CheckPromise}
+use Rattle.upkeep.specs.Upkeep.{countSays, ChangePromise, AppendPromise}
 use Rattle.judge.specs.Judge.{judgeSays, JudgePromise}
 use Rattle.judge.specs.declared.JudgeAnswer.{JudgeAnswer}
 use Rattle.season.specs.declared.{Entry.Entry, Tally.Tally}
@@ -59,6 +63,7 @@ use Rattle.results.specs.Control.{itemsSeen, boundSeen}
 use Rattle.results.specs.Findings.{postSeen}
 use Rattle.results.specs.Salvage.{salvageSeen}
 use Rattle.results.specs.Season.{entryFrom, tallySeen}
+use Rattle.results.specs.Totals.{totalsBuildSeen, totalsTotalSeen, totalsFindSeen, totalsChangeSeen, totalsAppendSeen, totalsCheckSeen}
 use Rattle.results.specs.Strata.{strataPlanSeen, strataDrawSeen, strataProjectSeen}
 
 -- any two results that meet it agree: an answer alone, and an answer with what is left in the lent buffers
@@ -71,6 +76,10 @@ OneWith {R} {B} Meets = (r s : R) (b c : B) → Meets r b → Meets s c → (r �
 -- words, values and errors
 abbrev pub Three : Type 0
 Three = List ℕ × List ℕ × List ℤ
+
+-- room and summary
+abbrev pub Two : Type 0
+Two = List ℕ × List ℕ
 
 -- for every input of every public operation
 pub record NoFreedom : Type 0 where
@@ -114,6 +123,14 @@ pub record NoFreedom : Type 0 where
   pub team-draw : (team : ℕ) (ledger : List ℕ) (n start : ℕ) (marks : List ℕ) → OneWith (TeamDrawPromise team ledger n start marks)
   pub team-post : (team : ℕ) (ledger marks : List ℕ) (errors : List ℤ) (line : ℕ) (error : ℤ) → OneWith (TeamPostPromise team ledger marks errors line error)
   pub team-post-all : (team : ℕ) (ledger marks : List ℕ) (errors : List ℤ) (lines : List ℕ) (found : List ℤ) → OneWith (TeamPostAllPromise team ledger marks errors lines found)
+  -- totals beside the ledger
+  pub totals-build : (room : List ℕ) (count : ℕ) (summary : List ℕ) → OneWith (BuildPromise room count summary)
+  pub totals-total : (room : List ℕ) (count : ℕ) (summary : List ℕ) → One (TotalPromise room count summary)
+  pub totals-find : (room : List ℕ) (count : ℕ) (summary : List ℕ) (cent : ℕ) → One (FindPromise room count summary cent)
+  pub totals-change : (room : List ℕ) (count : ℕ) (summary : List ℕ) (line value : ℕ)
+      → OneWith (λ r (b : Two). ChangePromise room count summary line value r (b .0) (b .1))
+  pub totals-append : (room : List ℕ) (count : ℕ) (summary : List ℕ) (value : ℕ) → OneWith (λ r (b : Two). AppendPromise room count summary value r (b .0) (b .1))
+  pub totals-check : (room : List ℕ) (count : ℕ) (summary : List ℕ) → One (CheckPromise room count summary)
   -- the working file, the salvage of one, its sheet, and the text
   pub read : (file words values : List ℕ) (errors : List ℤ) → OneWith (λ r (b : Three). ReadPromise file words values errors r (b .0) (b .1) (b .2))
   pub write : (plan : Plan) (words values : List ℕ) (errors : List ℤ) (file : List ℕ) → OneWith (WritePromise plan words values errors file)
@@ -163,6 +180,14 @@ pub record NoFreedom : Type 0 where
       → OneWith (λ r b. Sees postSeen postSays (λ a. TeamPostPromise team ledger marks errors line error a b) r)
   pub mus-team-post-all : (team : ℕ) (ledger marks : List ℕ) (errors : List ℤ) (lines : List ℕ) (found : List ℤ)
       → OneWith (λ r b. Sees postSeen postSays (λ a. TeamPostAllPromise team ledger marks errors lines found a b) r)
+  pub mus-totals-build : (room : List ℕ) (count : ℕ) (summary : List ℕ) → OneWith (λ r b. Sees totalsBuildSeen totalSays (λ a. BuildPromise room count summary a b) r)
+  pub mus-totals-total : (room : List ℕ) (count : ℕ) (summary : List ℕ) → One (Sees totalsTotalSeen totalSays (TotalPromise room count summary))
+  pub mus-totals-find : (room : List ℕ) (count : ℕ) (summary : List ℕ) (cent : ℕ) → One (Sees totalsFindSeen findSays (FindPromise room count summary cent))
+  pub mus-totals-change : (room : List ℕ) (count : ℕ) (summary : List ℕ) (line value : ℕ)
+      → OneWith (λ r (b : Two). Sees totalsChangeSeen totalSays (λ a. ChangePromise room count summary line value a (b .0) (b .1)) r)
+  pub mus-totals-append : (room : List ℕ) (count : ℕ) (summary : List ℕ) (value : ℕ)
+      → OneWith (λ r (b : Two). Sees totalsAppendSeen countSays (λ a. AppendPromise room count summary value a (b .0) (b .1)) r)
+  pub mus-totals-check : (room : List ℕ) (count : ℕ) (summary : List ℕ) → One (Sees totalsCheckSeen checkSays (CheckPromise room count summary))
   pub mus-read : (file words values : List ℕ) (errors : List ℤ)
       → OneWith (λ r (b : Three). Sees readSeen readSays (λ a. ReadPromise file words values errors a (b .0) (b .1) (b .2)) r)
   pub mus-write : (plan : Plan) (words values : List ℕ) (errors : List ℤ) (file : List ℕ)

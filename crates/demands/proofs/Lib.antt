@@ -8,4 +8,5 @@ pub mod Practice
 pub mod MoreError
 pub mod Passing
 pub mod Findings
+pub mod WholeRow
 pub mod MoreErrorStrata

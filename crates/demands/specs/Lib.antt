@@ -4,4 +4,5 @@ pub mod Strata
 pub mod Practice
 pub mod MoreError
 pub mod Findings
+pub mod WholeRow
 pub mod MoreErrorStrata

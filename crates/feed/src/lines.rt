@@ -17,6 +17,44 @@ fn put_step(pen: Pen, page: &mut [u8], operation: u8) -> Pen {
     }
 }
 
+// The name of an operation on a file, or on lines.
+fn put_on_file(pen: Pen, page: &mut [u8], operation: u8) -> Pen {
+    match operation {
+        7 => pen.text(page, b" read"),
+        8 => pen.text(page, b" write"),
+        9 => pen.text(page, b" lines"),
+        _ => pen.text(page, b" salvage"),
+    }
+}
+
+// The name of an operation by strata.
+fn put_on_strata(pen: Pen, page: &mut [u8], operation: u8) -> Pen {
+    match operation {
+        10 => pen.text(page, b" strataplan"),
+        11 => pen.text(page, b" stratadraw"),
+        _ => pen.text(page, b" strataproject"),
+    }
+}
+
+// The name of the tally, or of an operation for a control test.
+fn put_counted(pen: Pen, page: &mut [u8], operation: u8) -> Pen {
+    match operation {
+        13 => pen.text(page, b" tally"),
+        14 => pen.text(page, b" attributesize"),
+        _ => pen.text(page, b" attributebound"),
+    }
+}
+
+// The name of an operation with findings, or by walking.
+fn put_found(pen: Pen, page: &mut [u8], operation: u8) -> Pen {
+    match operation {
+        16 => pen.text(page, b" post"),
+        17 => pen.text(page, b" postall"),
+        22 => pen.text(page, b" boarddraw"),
+        _ => pen.text(page, b" boardproject"),
+    }
+}
+
 // The name of an operation by a team's own bits.
 fn put_by_team(pen: Pen, page: &mut [u8], operation: u8) -> Pen {
     match operation {
@@ -27,30 +65,33 @@ fn put_by_team(pen: Pen, page: &mut [u8], operation: u8) -> Pen {
     }
 }
 
+// The name of an operation with totals beside the ledger.
+fn put_totals(pen: Pen, page: &mut [u8], operation: u8) -> Pen {
+    match operation {
+        25 => pen.text(page, b" totalsbuild"),
+        26 => pen.text(page, b" totalstotal"),
+        27 => pen.text(page, b" totalsfind"),
+        28 => pen.text(page, b" totalschange"),
+        29 => pen.text(page, b" totalsappend"),
+        _ => pen.text(page, b" totalscheck"),
+    }
+}
+
 // The name of an operation.
 fn put_name(pen: Pen, page: &mut [u8], operation: u8) -> Pen {
     match operation {
         1..=6 => put_step(pen, page, operation),
-        7 => pen.text(page, b" read"),
-        8 => pen.text(page, b" write"),
-        9 => pen.text(page, b" lines"),
-        10 => pen.text(page, b" strataplan"),
-        11 => pen.text(page, b" stratadraw"),
-        12 => pen.text(page, b" strataproject"),
-        13 => pen.text(page, b" tally"),
-        14 => pen.text(page, b" attributesize"),
-        15 => pen.text(page, b" attributebound"),
-        16 => pen.text(page, b" post"),
-        17 => pen.text(page, b" postall"),
+        7 | 8 | 9 | 24 => put_on_file(pen, page, operation),
+        10..=12 => put_on_strata(pen, page, operation),
+        13..=15 => put_counted(pen, page, operation),
+        16 | 17 | 22 | 23 => put_found(pen, page, operation),
         18..=21 => put_by_team(pen, page, operation),
-        22 => pen.text(page, b" boarddraw"),
-        23 => pen.text(page, b" boardproject"),
-        24 => pen.text(page, b" salvage"),
+        25..=30 => put_totals(pen, page, operation),
         _ => pen.text(page, b" is of no operation"),
     }
 }
 
-// The digests of what was lent: the room or the file, and each list; amounts, or counts and starts, or a batch of findings, stand in the
+// The digests of what was lent: the room or the file, and each list; amounts, or counts and starts, a batch of findings or a summary, stand in the
 // place of the words, and a salvage's file in that of the ledger. And that of the strata's rows, of a season's tallies, or of an old Z.
 struct Digests {
     bytes: u64,
@@ -72,8 +113,31 @@ fn put_rows(pen: Pen, page: &mut [u8], rows: u64) -> Pen {
     told.fields(page, &[rows])
 }
 
-// The digests of what an operation by strata was lent, after those of its rows; a draw has none.
-fn put_by_strata(pen: Pen, page: &mut [u8], operation: u8, d: Digests) -> Pen {
+// The digests of what a step was lent.
+fn put_lent_to_step(pen: Pen, page: &mut [u8], operation: u8, d: Digests) -> Pen {
+    match operation {
+        1 => pen,
+        2 | 4 => put_lent(pen, page, &[d.ledger, d.bytes]),
+        3 => put_lent(pen, page, &[d.words]),
+        _ => put_lent(pen, page, &[d.ledger, d.errors]),
+    }
+}
+
+// Of an operation on a file, or on lines; a salvage has its old Z before them.
+fn put_lent_to_file(pen: Pen, page: &mut [u8], operation: u8, d: Digests) -> Pen {
+    match operation {
+        7 => put_lent(pen, page, &[d.bytes, d.words, d.ledger, d.errors]),
+        9 => put_lent(pen, page, &[d.ledger, d.errors, d.words]),
+        24 => {
+            let told = put_rows(pen, page, d.rows);
+            put_lent(told, page, &[d.ledger, d.bytes])
+        }
+        _ => put_lent(pen, page, &[d.words, d.ledger, d.errors, d.bytes]),
+    }
+}
+
+// Of an operation by strata, after those of its rows; a draw has none.
+fn put_lent_to_strata(pen: Pen, page: &mut [u8], operation: u8, d: Digests) -> Pen {
     match operation {
         10 => {
             let told = put_rows(pen, page, d.rows);
@@ -87,26 +151,26 @@ fn put_by_strata(pen: Pen, page: &mut [u8], operation: u8, d: Digests) -> Pen {
     }
 }
 
+// Of an operation with findings, a team's too.
+fn put_lent_to_posting(pen: Pen, page: &mut [u8], d: Digests) -> Pen {
+    put_lent(pen, page, &[d.ledger, d.errors, d.words, d.bytes])
+}
+
 // The digests of what an operation was lent.
 fn put_digests(pen: Pen, page: &mut [u8], operation: u8, d: Digests) -> Pen {
     match operation {
-        1 | 14 | 15 => pen,
-        2 | 4 | 18 | 19 | 22 => put_lent(pen, page, &[d.ledger, d.bytes]),
-        3 => put_lent(pen, page, &[d.words]),
-        5 | 6 | 23 => put_lent(pen, page, &[d.ledger, d.errors]),
-        7 => put_lent(pen, page, &[d.bytes, d.words, d.ledger, d.errors]),
-        9 => put_lent(pen, page, &[d.ledger, d.errors, d.words]),
-        16 | 17 | 20 | 21 => put_lent(pen, page, &[d.ledger, d.errors, d.words, d.bytes]),
-        10..=12 => put_by_strata(pen, page, operation, d),
+        1..=6 => put_lent_to_step(pen, page, operation, d),
+        10..=12 => put_lent_to_strata(pen, page, operation, d),
         13 => {
             let told = put_rows(pen, page, d.rows);
             put_lent(told, page, &[d.words])
         }
-        24 => {
-            let told = put_rows(pen, page, d.rows);
-            put_lent(told, page, &[d.ledger, d.bytes])
-        }
-        _ => put_lent(pen, page, &[d.words, d.ledger, d.errors, d.bytes]),
+        14 | 15 => pen,
+        16 | 17 | 20 | 21 => put_lent_to_posting(pen, page, d),
+        18 | 19 | 22 => put_lent(pen, page, &[d.ledger, d.bytes]),
+        23 => put_lent(pen, page, &[d.ledger, d.errors]),
+        25..=30 => put_lent(pen, page, &[d.ledger, d.words]),
+        _ => put_lent_to_file(pen, page, operation, d),
     }
 }
 

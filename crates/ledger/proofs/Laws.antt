@@ -29,6 +29,11 @@ lines-total (v ∷ l) line running t h e =
     (λ p. by-test (λ o. o ≡ accepted t → Added (v ∷ l) running t) (ltb mostTotal (running + v)) (λ q e. never e)
     (λ q f. let r = later (ltb-false _ _ q) f in record { sums = omega (arith, r .sums); most = r .most; each = (ltb-false _ _ p, r .each) })) e
 
+-- judged from the first line on
+pub running-added : {l : List ℕ} {t : ℕ} → runningTotal l ≡ accepted t → Added l 0 t
+unfolding runningTotal
+running-added {l} {t} e = lines-total l 0 0 t (omega arith) e
+
 -- what an accepted ledger gives
 pub record Good (ledger : List ℕ) (beside total : ℕ) : Type 0 where
   pub few : length ledger ≤ mostLines
@@ -83,11 +88,15 @@ lines-add (v ∷ l) line running each most =
     let adds : running + v + sum l ≡ running + (v + sum l) = omega arith in
     simp (le-ltb _ _ (each .0), le-ltb _ _ small) (lines-add l (suc line) (running + v) (each .1) (omega arith) ∙ ap accepted adds)
 
+pub running-within : (l : List ℕ) → AllUpTo mostValue l → sum l ≤ mostTotal → runningTotal l ≡ accepted (sum l)
+unfolding runningTotal
+running-within l each most = lines-add l 0 0 each (omega arith) ∙ ap accepted (omega arith)
+
 pub judged : (l : List ℕ) → AllUpTo mostValue l → sum l ≤ mostTotal → 0 < sum l → length l ≤ mostLines → ledgerOf l (length l) ≡ accepted (sum l)
-unfolding ledgerOf ledgerWith runningTotal
+unfolding ledgerOf ledgerWith
 judged l each most some few =
     let none : sum l ≡ 0 → ⊥ = λ z. omega arith in
-    let whole : runningFrom 0 0 l ≡ accepted (sum l) = lines-add l 0 0 each (omega arith) ∙ ap accepted (omega arith) in
+    let whole : runningTotal l ≡ accepted (sum l) = running-within l each most in
     simp (le-ltb _ _ few, eq-eqb (length l) (length l) refl) (ap (after someTotal) whole ∙ simp (ne-eqb _ _ none))
 
 -- the refusals that the judgement gives
@@ -98,17 +107,25 @@ ledgerNumbers = 2 ∷ 13 ∷ 3 ∷ 4 ∷ 5 ∷ []
 abbrev pub valueNumbers : List ℕ
 valueNumbers = 3 ∷ 4 ∷ 5 ∷ []
 
-lines-give : (line running : ℕ) (l : List ℕ) → Gives valueNumbers (runningFrom line running l)
+-- and those of the lines, whatever the total is
+abbrev pub lineNumbers : List ℕ
+lineNumbers = 3 ∷ 4 ∷ []
+
+lines-give : (line running : ℕ) (l : List ℕ) → Gives lineNumbers (runningFrom line running l)
 unfolding runningFrom
 lines-give line running [] = tt
 lines-give line running (v ∷ l) =
-    by-test (Gives valueNumbers) (ltb mostValue v) (λ p. tt)
-    (λ p. by-test (Gives valueNumbers) (ltb mostTotal (running + v)) (λ q. tt) (λ q. lines-give (suc line) (running + v) l))
+    by-test (Gives lineNumbers) (ltb mostValue v) (λ p. tt)
+    (λ p. by-test (Gives lineNumbers) (ltb mostTotal (running + v)) (λ q. tt) (λ q. lines-give (suc line) (running + v) l))
+
+pub running-gives : (l : List ℕ) → Gives lineNumbers (runningTotal l)
+unfolding runningTotal
+running-gives l = lines-give 0 0 l
 
 total-gives : (l : List ℕ) → Gives valueNumbers (after someTotal (runningTotal l))
-unfolding runningTotal
 total-gives l =
-    gives-after valueNumbers someTotal (runningFrom 0 0 l) (lines-give 0 0 l) (λ total. by-test (Gives valueNumbers) (eqb total 0) (λ z. tt) (λ z. tt))
+    gives-after valueNumbers someTotal (runningTotal l) (gives-among lineNumbers valueNumbers tt (runningTotal l) (running-gives l))
+    (λ total. by-test (Gives valueNumbers) (eqb total 0) (λ z. tt) (λ z. tt))
 
 pub lent-gives : (ledger : List ℕ) (same : Bool) → Gives ledgerNumbers (ledgerWith ledger same)
 unfolding ledgerWith

@@ -10,7 +10,7 @@ pub enum LedgerAnswer {
 }
 
 // Refusals 3 and 4, line by line, and the total where there is none.
-fn judge_lines(ledger: &[u64]) -> LedgerAnswer
+pub fn judge_lines(ledger: &[u64]) -> LedgerAnswer
     ensures { λ r. ⌜ ledgerSays r ≡ runningTotal (now (ledger .entry)) ⌝ }
 {
     let mut total: u64 = 0;

@@ -7,4 +7,5 @@ mod control; // control.rt: the attribute job aid for control tests
 mod file; // file.rt: the working file and its sheet
 mod posting; // posting.rt: findings posted, singly or by the batch
 mod steps; // steps.rt: the steps of the method
+mod summary; // summary.rt: totals beside the ledger
 mod tally; // tally.rt: the tally of a season

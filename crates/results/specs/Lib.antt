@@ -6,3 +6,4 @@ pub mod Season
 pub mod Control
 pub mod Findings
 pub mod Salvage
+pub mod Totals

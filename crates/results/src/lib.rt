@@ -9,6 +9,7 @@ pub mod file; // file.rt: answers of the working file and its sheet
 pub mod posting; // posting.rt: answers of posting findings
 pub mod salvage; // salvage.rt: the answer of the salvage
 pub mod steps; // steps.rt: answers of the steps
+pub mod summary; // summary.rt: answers of the totals beside the ledger
 pub mod tally; // tally.rt: the tally of a season
 
 #[repr(C)]
@@ -147,6 +148,49 @@ pub struct PostResult {
     pub refusal: u64,
     pub place: u64,
     pub posted: u64,
+}
+
+#[repr(C)]
+pub struct TotalsBuildResult {
+    pub refusal: u64,
+    pub place: u64,
+    pub total: u64,
+}
+
+#[repr(C)]
+pub struct TotalsTotalResult {
+    pub refusal: u64,
+    pub place: u64,
+    pub total: u64,
+}
+
+#[repr(C)]
+pub struct TotalsFindResult {
+    pub refusal: u64,
+    pub place: u64,
+    pub line: u64,
+}
+
+#[repr(C)]
+pub struct TotalsChangeResult {
+    pub refusal: u64,
+    pub place: u64,
+    pub total: u64,
+}
+
+#[repr(C)]
+pub struct TotalsAppendResult {
+    pub refusal: u64,
+    pub place: u64,
+    pub count: u64,
+}
+
+#[repr(C)]
+pub struct TotalsCheckResult {
+    pub refusal: u64,
+    pub place: u64,
+    pub wrong: u64,
+    pub block: u64,
 }
 
 #[repr(C)]

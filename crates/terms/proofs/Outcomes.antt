@@ -66,9 +66,9 @@ listed p =
     Refusal.TotalZero ∷ Refusal.ToleranceOutOfRange ∷ Refusal.ToleranceSpent ∷ Refusal.NoDraws ∷ Refusal.NoLegalFile ∷
     Refusal.IntervalTooLarge ∷ Refusal.StartOutOfRange p ∷ Refusal.NoWordPasses p ∷ Refusal.LengthsDiffer ∷ Refusal.ErrorAboveValue p ∷
     Refusal.ErrorNotDrawn p ∷ Refusal.TooManyErrors ∷ Refusal.FileBreaksRule p ∷ Refusal.RoomTooShort p ∷ Refusal.NoLegalFile ∷
-    Refusal.LineNotThere p ∷ Refusal.NoLegalFile ∷ Refusal.StrataOutOfRange ∷ Refusal.TooFewDraws ∷ Refusal.UnknownTeam ∷
+    Refusal.LineNotThere p ∷ Refusal.WrongSummaryLength ∷ Refusal.StrataOutOfRange ∷ Refusal.TooFewDraws ∷ Refusal.UnknownTeam ∷
     Refusal.UnknownTolerance ∷ Refusal.TooManyExceptions ∷ Refusal.TooManyJudgements ∷ Refusal.SumTooLarge ∷ Refusal.NoWholePlan ∷
-    Refusal.CountsDoNotAdd ∷ []
+    Refusal.CountsDoNotAdd ∷ Refusal.WrongFigure p ∷ []
 
 entry : List Refusal → ℕ → Refusal
 entry [] k = Refusal.NoLegalFile
@@ -97,6 +97,7 @@ found (Refusal.FileBreaksRule byte) = refl
 found (Refusal.RoomTooShort needed) = refl
 found Refusal.NoLegalFile = refl
 found (Refusal.LineNotThere position) = refl
+found Refusal.WrongSummaryLength = refl
 found Refusal.StrataOutOfRange = refl
 found Refusal.TooFewDraws = refl
 found Refusal.UnknownTeam = refl
@@ -106,6 +107,7 @@ found Refusal.TooManyJudgements = refl
 found Refusal.SumTooLarge = refl
 found Refusal.NoWholePlan = refl
 found Refusal.CountsDoNotAdd = refl
+found (Refusal.WrongFigure block) = refl
 
 -- so no two refusals share both
 pub one-refusal : (r s : Refusal) → number r ≡ number s → place r ≡ place s → r ≡ s

@@ -27,6 +27,7 @@ tells (Refusal.FileBreaksRule byte) = row 17 byte
 tells (Refusal.RoomTooShort needed) = row 18 needed
 tells Refusal.NoLegalFile = row 19 0
 tells (Refusal.LineNotThere position) = row 20 position
+tells Refusal.WrongSummaryLength = row 21 0
 tells Refusal.StrataOutOfRange = row 22 0
 tells Refusal.TooFewDraws = row 23 0
 tells Refusal.UnknownTeam = row 24 0
@@ -36,6 +37,7 @@ tells Refusal.TooManyJudgements = row 27 0
 tells Refusal.SumTooLarge = row 28 0
 tells Refusal.NoWholePlan = row 29 0
 tells Refusal.CountsDoNotAdd = row 30 0
+tells (Refusal.WrongFigure block) = row 31 block
 
 abbrev pub number : Refusal → ℕ
 number why = tells why .number

@@ -45,6 +45,7 @@ pub enum Refusal {
     RoomTooShort(u64),
     NoLegalFile,
     LineNotThere(u64),
+    WrongSummaryLength,
     StrataOutOfRange,
     TooFewDraws,
     UnknownTeam,
@@ -54,9 +55,10 @@ pub enum Refusal {
     SumTooLarge,
     NoWholePlan,
     CountsDoNotAdd,
+    WrongFigure(u64),
 }
 
-// What a refusal tells: its number in the documents' table, and the place that it names: a line, a byte, a count that is needed, a stratum, a pair, or 0.
+// What a refusal tells: its number in the documents' table, and the place that it names: a line, a byte, a count that is needed, a stratum, a pair, a block, or 0.
 pub struct Told {
     pub number: u64,
     pub place: u64,
@@ -93,6 +95,7 @@ pub fn tell(refusal: Refusal) -> Told
         Refusal::RoomTooShort(needed) => row(18, needed),
         Refusal::NoLegalFile => row(19, 0),
         Refusal::LineNotThere(position) => row(20, position),
+        Refusal::WrongSummaryLength => row(21, 0),
         Refusal::StrataOutOfRange => row(22, 0),
         Refusal::TooFewDraws => row(23, 0),
         Refusal::UnknownTeam => row(24, 0),
@@ -102,6 +105,7 @@ pub fn tell(refusal: Refusal) -> Told
         Refusal::SumTooLarge => row(28, 0),
         Refusal::NoWholePlan => row(29, 0),
         Refusal::CountsDoNotAdd => row(30, 0),
+        Refusal::WrongFigure(block) => row(31, block),
     }
 }
 

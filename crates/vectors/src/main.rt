@@ -8,6 +8,7 @@ mod reads; // reads.rt: cases of a read
 mod salvages; // salvages.rt: cases of a salvage
 mod seasons; // seasons.rt: cases of the tally of a season
 mod steps; // steps.rt: cases of the other operations
+mod summaries; // summaries.rt: cases of the totals beside the ledger
 
 ghost use mathlib.Core.Path.{_≡_};
 ghost use lib.ListN.{length};
@@ -50,6 +51,7 @@ fn run(
         16 | 17 => postings::run(number, case, numbers, errors, amounts, room),
         18..=21 => by_team::run(number, case, numbers, errors, amounts, room),
         24 => salvages::run(number, case, room),
+        25..=30 => summaries::run(number, case, numbers),
         _ => steps::run(number, case, numbers, errors, room),
     }
 }

@@ -7,13 +7,33 @@ use feed::rooms;
 use parts::front_to_fill;
 use parts::part;
 
+// A draw or a projection, by either method.
+fn by_either_method(case: Case, ledger: &[u64], errors: &[i64], room: &mut [u8]) -> Answer {
+    let operation = case.operation;
+    match operation {
+        4 => calls::draw(ledger, case.first, case.second, room),
+        5 => calls::project(ledger, case.first, case.second, errors),
+        22 => calls::board::board_draw(ledger, case.first, case.second, room),
+        _ => calls::board::board_project(ledger, case.first, case.second, errors),
+    }
+}
+
+// What takes no ledger: the size, or an operation for a control test.
+fn of_numbers(case: Case) -> Answer {
+    let operation = case.operation;
+    match operation {
+        14 => calls::attribute_size(case.level, (case.first % 256) as u8),
+        15 => calls::attribute_bound(case.level, (case.first % 256) as u8, case.second),
+        _ => calls::size(case.level, case.first, case.second, case.third),
+    }
+}
+
 fn answer(case: Case, ledger: &[u64], errors: &[i64], words: &[u64], room: &mut [u8]) -> Answer {
     let operation = case.operation;
     match operation {
         2 => calls::split(ledger, case.first, room),
         3 => calls::start(case.first, words),
-        4 => calls::draw(ledger, case.first, case.second, room),
-        5 => calls::project(ledger, case.first, case.second, errors),
+        4 | 5 | 22 | 23 => by_either_method(case, ledger, errors, room),
         6 => calls::judge(
             case.level,
             ledger,
@@ -31,11 +51,7 @@ fn answer(case: Case, ledger: &[u64], errors: &[i64], words: &[u64], room: &mut 
             errors,
             room,
         ),
-        14 => calls::attribute_size(case.level, (case.first % 256) as u8),
-        15 => calls::attribute_bound(case.level, (case.first % 256) as u8, case.second),
-        22 => calls::board::board_draw(ledger, case.first, case.second, room),
-        23 => calls::board::board_project(ledger, case.first, case.second, errors),
-        _ => calls::size(case.level, case.first, case.second, case.third),
+        _ => of_numbers(case),
     }
 }
 

@@ -45,4 +45,6 @@ tell-spec =
     (λ c. search arm) (λ c. search arm) (λ c. search arm)
     (λ c. search arm) (λ c. search arm) (λ c. search arm)
     (λ c. search arm) (λ c. search arm) (λ c. search arm)
+    (λ c. search arm) (λ c. search arm) (λ c. search arm)
+    (λ c. search arm) (λ c. search arm) (λ c. search arm)
     (λ c. search arm) (λ c. search arm) (λ c. search arm))

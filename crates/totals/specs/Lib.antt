@@ -1,0 +1,4 @@
+pub mod Summary
+pub mod Lookup
+pub mod Comparison
+pub mod Agreement

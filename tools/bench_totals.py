@@ -1,4 +1,4 @@
-"""The rows of tools/bench for totals beside the ledger: calls that walk no ledger, and the scan that the search by blocks is held against."""
+"""The rows of tools/bench for totals beside the ledger: calls that do not walk the ledger, and the scan that the search by blocks is held against."""
 
 TOTALS = [("totals-total", "grand total"), ("totals-find", "find the last cent"), ("totals-change", "change a line"), ("totals-append", "append a line")]
 TOTALS_SIZES = [10_000, 100_000, 800_000, 1_000_000]

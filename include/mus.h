@@ -20,40 +20,40 @@
  * No ledger and no number of draws make more than MUS_MOST_ROUNDS rounds, which is proved; so the last figure is enough for every input.
  *
  *     call                one round   r rounds           90 rounds
- *     mus_size                  104
- *     mus_split                 192   144 + 48 r            4,464
+ *     mus_size                   88
+ *     mus_split                 160   160                     160
  *     mus_start                  56
- *     mus_draw                  176   128 + 48 r            4,448
- *     mus_project               616   224 + 48 r            4,544
- *     mus_project_lines         664   272 + 48 r            4,592
- *     mus_board_draw            176   128 + 48 r            4,448
- *     mus_board_project         600   208 + 48 r            4,528
- *     mus_judge               1,448   1,056 + 48 r          5,376
- *     mus_strata_plan         7,840   7,792 + 48 r         12,112
- *     mus_strata_draw         6,512   6,464 + 48 r         10,784
- *     mus_strata_project     11,184   11,136 + 48 r        15,456
- *     mus_post                   72
- *     mus_post_all              128
- *     mus_team_split            224   176 + 48 r            4,496
- *     mus_team_draw             176   128 + 48 r            4,448
- *     mus_team_post              72
- *     mus_team_post_all         128
- *     mus_totals_build           80
+ *     mus_draw                  136   136                     136
+ *     mus_project               496   496                     496
+ *     mus_project_lines         560   560                     560
+ *     mus_board_draw            136   136                     136
+ *     mus_board_project         480   480                     480
+ *     mus_judge               1,544   1,544                 1,544
+ *     mus_strata_plan        10,784   10,816               10,816
+ *     mus_strata_draw        11,120   11,152               11,152
+ *     mus_strata_project     12,624   12,656               12,656
+ *     mus_post                  104
+ *     mus_post_all              144
+ *     mus_team_split            184   184                     184
+ *     mus_team_draw             120   120                     120
+ *     mus_team_post             112
+ *     mus_team_post_all         160
+ *     mus_totals_build           88
  *     mus_totals_total           40
- *     mus_totals_find            64
+ *     mus_totals_find            80
  *     mus_totals_change          88
- *     mus_totals_append          88
+ *     mus_totals_append         104
  *     mus_totals_check          104
  *     mus_tally_none            296
- *     mus_tally_add           1,752
- *     mus_attribute_size         80
- *     mus_attribute_bound       384
+ *     mus_tally_add           1,800
+ *     mus_attribute_size         40
+ *     mus_attribute_bound        40
  *     mus_read                  392
- *     mus_write                 136
- *     mus_salvage               280
- *     mus_sheet              35,712   35,344 + 48 r        39,664
+ *     mus_write                 176
+ *     mus_salvage               296
+ *     mus_sheet              35,976   35,976               35,976
  *
- * It was measured on the library as `rt staticlib mus` makes it (docs/PERFORMANCE.md). */
+ * It was measured on the library as `rt lib` in crates/mus makes it (docs/PERFORMANCE.md). */
 #ifndef MUS_H
 #define MUS_H
 

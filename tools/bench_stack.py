@@ -3,7 +3,7 @@
 import sys
 
 FEWEST = 10_000  # lines of a ledger of one round
-MOST_ROUNDS = 90  # mostRounds of crates/split/specs/Intervals.antt
+MOST_ROUNDS = 90  # most_rounds of crates/split/specs/Intervals.antt
 
 # A call, the row of one round in which it goes deepest, and the row of many rounds with the most lines of its ledger. A call by either method
 # has a row for each, and the larger figures.
@@ -90,6 +90,7 @@ def with_stack(header, a_round, calls):
     last = next(place for place in range(first, len(lines)) if lines[place] == " *")
     made = [f" *     call                one round   r rounds           {MOST_ROUNDS} rounds"]
     for name, (one, rounds, then, most) in calls.items():
-        split = "" if most is None else f"   {f'{most - MOST_ROUNDS * a_round:,} + {a_round} r':<18} {most:>8,}"
+        rounds = f" + {a_round} r" if a_round else ""
+        split = "" if most is None else f"   {f'{most - MOST_ROUNDS * a_round:,}{rounds}':<18} {most:>8,}"
         made.append(f" *     {name:<19} {one:>9,}{split}")
     return "\n".join(lines[:first] + made + lines[last:])

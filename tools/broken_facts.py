@@ -1,115 +1,59 @@
-"""The fact that an error of the prover names, as docs/FIRST-ERRORS.md shows it; tools/first-errors reads the errors."""
+"""The fact that the first line of an error of the prover names, as docs/FIRST-ERRORS.md shows it; tools/first-errors reads the lines."""
 
 import re
 
-MOST = 200
-NAME = re.compile(r"(?:[\w·+-]+\.)+(?=[\w«_])")
+# What `rt ci` prints of an error: so many characters. A line and a column that it holds have at most so many, so that the page does not change where they do.
+PRINTED, PLACE = 160, len("9999:999")
+
+ERROR = re.compile(r"(?P<before>(?:note: )?(?:\./)?)(?P<file>\S+?\.(?:antt|rt)):\d+:\d+: (?P<error>(?:error: )?)(?P<words>.*)")
+
+# A path of modules before a name: its last part says enough, and a fact that is known keeps its own path (`c.args.now`).
+PATH = re.compile(r"(?<![\w.·-])[A-Za-z]\w+(?:\.[\w+·-]+)*\.(?=[^\s.`)])")
+
+# What an error says where a fact has no proof. Others are of an edit's form: a name that is gone, a text that cannot be read.
+FACTS = (
+    r"it is not proved that ",
+    r"(?:`[^`]*`: )?no proof of ",
+    r"(?:`[^`]*`: )?the (?:goal|part) (?:fails|does not follow)",
+    r"(?:as printed|computed as far as they go), the two (?:types|sides|values|indices) ",
+    r"computed as a goal is, one side reads ",
+    r"expected type `[^`]*(?:`?,? but this has type | \.\.`$)",
+    r"this `[^`]*` lands at index ",
+    r"`[^`]*` ≟ `[^`]*(?:`? does not hold| \.\.`$)",
+    r"give a proof of that as the last argument",
+)
+FACT = re.compile("|".join(FACTS))
+DECLARED = re.compile(r"`([^`]*)`: ")
+TACTIC = re.compile(r"^`(?:search|omega|grind|simp|rw)`: ")
+FAILS = re.compile(r"^the (goal|part) does not follow\b(?:.*?\bfails, (at .*[^. ].*)|.*)")
 
 
-def quoted(text):
-    return re.findall(r"`([^`]*)`", text)
-
-
-def short(text):
-    """Names by their last part, without the steps back that a proof takes through what is known and the numbers of what is open."""
-    text = re.sub(r"(?: \.before)+", " ..", NAME.sub("", re.sub(r"\?\d+", "?", text)))
-    return re.sub(r"…\[\d+ bytes\]…", " .. ", text)
-
-
-def cut(text, most=MOST):
-    return text if len(text) <= most else text[:most].rsplit(" ", 1)[0] + " .."
-
-
-def cut_fact(fact, most):
-    """A fact that is cut within a piece of code ends it."""
-    text = cut(fact, most)
-    return text + "`" if text.count("`") % 2 else text
-
-
-def declaration(words):
-    found = re.match(r"`([^`]*)`: ", words)
-    return (found.group(1), words[found.end() :]) if found else ("", words)
-
-
-def of_search(words):
-    """The goal, the law that fits it and whose premise is open, or the field of the goal that is."""
-    found = re.match(r"`search`: no proof of `(?P<goal>[^`]*)`?(?P<more>.*)", words)
+def printed(line):
+    """The file of an error's first line, and its words as far as they are printed whatever its place in the file."""
+    found = ERROR.match(line)
     if not found:
         return None
-    goal, more = short(found["goal"]), found["more"]
-    laws = re.search(r"a premise of each was left unproved: ((?:`[^`]*`(?:, )?)+)", more)
-    laws = [law for law in quoted(laws.group(1)) if not law.startswith("record")] if laws else []
-    fields = re.search(r"no proof was found of ((?:`[^`]*`(?:, | and )?)+)", more)
-    says = f"no proof of `{head(goal)}`"
-    if laws:
-        says += f": a premise of {' and of '.join(f'`{law}`' for law in laws)} is left unproved"
-    if fields:
-        says += f"; of its fields {', '.join(f'`{field}`' for field in quoted(fields.group(1)))}"
-    return says if laws or fields else f"{says}: nothing fits `{cut(goal, 120)}`"
+    room = PRINTED - PLACE - len(found["before"] + found["file"] + ":" + ": " + found["error"])
+    words = found["words"]
+    return found["file"], words if len(words) < room else ended(words[:room])
 
 
-def head(goal):
-    """What a goal says: the relation, or an equation."""
-    first, _, more = goal.partition(" ")
-    if more[:2] in ("< ", "≤ "):
-        return f"{first} {more[0]} .."
-    name = first.strip("(")
-    return "≡" if name in ("_≡_", "Path") else name
+def ended(words):
+    """Words that are cut: to their last whole one, and out of a piece of code."""
+    words = words.rsplit(" ", 1)[0].rstrip(" ,;") + " .."
+    return words + "`" if words.count("`") % 2 else words
 
 
-def of_omega(words):
-    found = re.match(r"`omega`: .*the (?:goal|part) fails, at (.*?)(?:\. It read|$)", words)
-    return f"the goal fails at {cut(short(found.group(1)))}" if found else None
-
-
-def of_types(words):
-    """Two types that differ: in two values where the prover says which, else as a whole."""
-    for form in "differ only", "first differ":
-        found = re.search(rf"the two (?:types|sides) {form} where one has `([^`]*)` \(expected\)[^`]*(?:`[^`]*`)?[^`]*and the other has `([^`]*)`", words)
-        if found:
-            return f"`{cut(short(found.group(1)), 100)}` is expected, and `{cut(short(found.group(2)), 100)}` is there"
-    found = re.search(r"expected type `([^`]*)`,? but this has type `([^`]*)`", words) or re.search(
-        r"the two (?:types|indices) are `([^`]*)` \([^`]*\) and `([^`]*)`", words
-    )
-    return found and f"`{cut(short(found.group(1)), 100)}` is expected, and `{cut(short(found.group(2)), 100)}` is there"
-
-
-def of_need(words):
-    found = re.match(r"it is not proved that (.*)", words)
-    return found.group(1) if found else None
-
-
-def of_rewriting(words):
-    """A rewriting that leaves a goal open, and shows it."""
-    found = re.match(r"`(?:simp|rw)`: .*?(?:is left|left of the goal|remains|the goal is now)\W+`([^`]*)`", words)
-    return f"this is left to prove: `{cut(short(found.group(1)))}`" if found else None
-
-
-def of_equation(words):
-    """Two sides that are not the same."""
-    found = re.match(r"`([^`]*)` ≟ `([^`]*)` does not hold", words)
-    return f"`{cut(short(found.group(1)), 100)}` is not `{cut(short(found.group(2)), 100)}`" if found else None
-
-
-def of_sides(words):
-    """Two sides of which the prover says where they differ, or a path that a rewriting leaves and whose ends do."""
-    found = re.search(r"the two (?:sides|values) differ only where one has `([^`]*)` \((?:left|found)\).*?and the other has `([^`]*)`", words)
-    if found:
-        return f"`{cut(short(found.group(1)), 100)}` is not `{cut(short(found.group(2)), 100)}`"
-    found = re.search(r"what it leaves must be a path whose two ends are equal, and `([^`]*)`", words)
-    if found:
-        return f"this is left to prove: `{cut(short(found.group(1)))}`"
-    found = re.search(r"computed as far as they go, the two values first differ where one has `([^`]*)` \(found\).*?and the other has `([^`]*)`", words) or re.search(
-        r"computed as far as they go, the two sides are `([^`]*)` \(left\) and `([^`]*)`", words
-    )
-    return found and f"`{cut(short(found.group(1)), 100)}` is not `{cut(short(found.group(2)), 100)}`"
-
-
-KINDS = of_search, of_omega, of_types, of_need, of_rewriting, of_equation, of_sides
-
-
-def fact_of(words):
-    """The declaration that fails and the fact that it names, or nothing."""
-    name, rest = declaration(words)
-    fact = next(filter(None, (kind(rest) for kind in KINDS)), None)
-    return fact and (f"`{name}`: {fact}" if name else fact)
+def fact_of(line):
+    """The file and the fact that an error's first line names, with the goal or the law that has no proof; or nothing."""
+    read = printed(line)
+    if not read:
+        return None
+    file, words = read
+    named = DECLARED.match(words)
+    goal, rest = (named[1], words[named.end() :]) if named and not FACT.match(words) else ("", words)
+    if not FACT.match(rest):
+        return None
+    said = TACTIC.sub("", PATH.sub("", re.sub(r"\?\d+", "?", rest)))
+    said = FAILS.sub(lambda found: " ".join(filter(None, ["the", found[1], "fails", found[2]])), said)
+    return f"`{file}`: " + (f"`{goal}`: " if goal else "") + said

@@ -10,12 +10,12 @@ from typing import NamedTuple
 ROOT = pathlib.Path(__file__).resolve().parent.parent
 
 # A name of antt is any run of other characters than these; what stands between « and » is one name.
-ENDS = r"\s(){}.;,@\"«»⌜⌝"
+ENDS = r"\s(){}.;,@\"«»"
 ANTT_NAME = re.compile(rf"«[^»]*»|[^{ENDS}]+")
 ANTT_BLANK = re.compile(rf'"(?:\\.|[^"\\])*"|\{{-.*?-\}}|(?<![^{ENDS}])--[^\n]*', re.DOTALL)
 RUST_NAME = re.compile(r"[^\W\d]\w*")
 RUST_BLANK = re.compile(r"\"(?:\\.|[^\"\\])*\"|'(?:\\.|[^'\\])'|//[^\n]*|/\*.*?\*/", re.DOTALL)
-CONTRACT = re.compile(r"⌜.*?⌝", re.DOTALL)
+CLAUSE = re.compile(r"\b(?:ensures|requires)\b[^{};]*\{|#!?\[tactic\b")
 FIELD = re.compile(rf"([{{;]\s*)(?:«[^»]*»|[^{ENDS}]+)\s*=(?!=)")
 
 # A line of imports: its marks, its path, and the names in braces or the name after `as`.
@@ -30,6 +30,10 @@ SIGNATURE = re.compile(
     rf"\s*(?P<marks>(?:(?:abbrev|unfoldable|pub|record|data)\s+)*)(?P<name>«[^»]*»|[^{ENDS}]+)\s*"
     r"(?:\{[^}:]*\}\s*)?(?::|(?<=\s)(?P<open>[({]))"
 )
+
+
+# What the prover reads of a function's proof stands in its folder in proofs/: the invariants and measures of its loops, and the answers to its goals.
+OF_A_FUNCTION = "Invariants.antt", "Answers.antt", "Proof.antt"
 
 
 class Import(NamedTuple):
@@ -91,8 +95,28 @@ class Source:
         if self.is_antt:
             return names_in(self.body, ANTT_NAME)
         if ghost:
-            return names_in(" ".join(CONTRACT.findall(self.body)), ANTT_NAME)
-        return names_in(blanked(self.body, CONTRACT), RUST_NAME)
+            return names_in(" ".join(self.body[at:end] for at, end in contracts_of(self.body)), ANTT_NAME)
+        code, at = "", 0
+        for start, end in contracts_of(self.body):
+            code, at = code + self.body[at:start], end
+        return names_in(code + self.body[at:], RUST_NAME)
+
+
+def contracts_of(text):
+    """Where the contracts of an .rt file stand: from the bracket that opens a clause, or names the laws of a tactic, to its end."""
+    for found in CLAUSE.finditer(text):
+        start = end = text.index("[" if text[found.start()] == "#" else "{", found.start())
+        depth = 0
+        for end in range(start, len(text)):
+            depth += {"{": 1, "[": 1, "}": -1, "]": -1}.get(text[end], 0)
+            if not depth:
+                break
+        yield start, end + 1
+
+
+def is_of_a_function(path):
+    """The file answers the prover about one function (`proofs/F/Answers.antt`), and is none of laws (`proofs/Answers.antt`)."""
+    return path.name in OF_A_FUNCTION and path.parent.name != "proofs"
 
 
 def signature_of(line):
@@ -113,9 +137,9 @@ def names_in(text, pattern):
 
 
 def is_used(name, used):
-    """The name is among those used; of an operator every part is, with or without the places of its arguments."""
-    parts = [part for part in name.split("_") if part]
-    return name in used or bool(parts) and all({part, f"_{part}", f"{part}_"} & used for part in parts)
+    """The name is among those used; of an operator (`◌+◌`) every part is, with or without the places of its arguments."""
+    parts = [part for part in name.split("◌") if part] if "◌" in name else []
+    return name in used or bool(parts) and all({part, f"◌{part}", f"{part}◌"} & used for part in parts)
 
 
 def is_member(before):

@@ -1,14 +1,17 @@
 // What a test program prints of an operation's answer: its figures, each after a space, or " refused", the number and the place; after
 // the figures of a projection its net with its sign, and after those of a judgement the limits and the word of the verdict.
+#![tactic(auto)]
+
 ghost use Rattle.std.specs.Prelude.{◌∷◌};
 ghost use Rattle.pen.specs.Text.{signed_text};
 ghost use Rattle.pen.specs.Page.{Wrote};
 ghost use Rattle.answers.specs.Answers.{figures_text, rest_text, answer_text, verdict_text};
 
 use pen::Pen;
+use std::io;
 
 // What follows the first figures: the net; and of a judgement also the precision, the upper limit and the verdict's number.
-#[derive(Drop)]
+#[derive(Clone, Copy)]
 pub enum Rest {
     Nothing,
     Net(i64),
@@ -16,7 +19,7 @@ pub enum Rest {
 }
 
 // The answer of any operation, in the numbers that C sees: a refusal's number is 0 where the call is accepted.
-#[derive(Drop)]
+#[derive(Clone, Copy)]
 pub struct Answer {
     pub refusal: u64,
     pub place: u64,
@@ -87,7 +90,7 @@ pub fn put(pen: Pen, page: &mut [u8], answer: Answer) -> Pen
 }
 
 // Ends the line of a page and writes it to standard output.
-pub fn write_line(page: &mut [u8], pen: Pen) {
+pub fn write_line(rt: &impl Print, page: &mut [u8], pen: Pen) -> io::Result<()> {
     let ended = pen.byte(page, 10);
-    io::write_all(1, parts::front(page, ended.at));
+    rt.write_all(parts::front(page, ended.at))
 }

@@ -1,4 +1,6 @@
 // The attribute job aid of document 000: how many items a control test looks at, and the upper bound on the exceptions in all of them.
+#![tactic(auto)]
+
 ghost use Rattle.std.specs.Prelude.{◌≡◌};
 ghost use Rattle.attributes.specs.Attributes.{place_says, level_place, tolerance_place, entry_place, ItemsPromise, BoundPromise};
 
@@ -7,21 +9,21 @@ use terms::Refusal;
 mod table;
 
 // A place in a list or a table, or the first refusal.
-#[derive(Drop)]
+#[derive(Clone, Copy)]
 enum PlaceAnswer {
     At(usize),
     Refused(Refusal),
 }
 
 // The sample size in items, or the first refusal.
-#[derive(Drop)]
+#[derive(Clone, Copy)]
 pub enum ItemsAnswer {
     Items(u64),
     Refused(Refusal),
 }
 
 // The upper bound in hundredths of a percent, or the first refusal.
-#[derive(Drop)]
+#[derive(Clone, Copy)]
 pub enum BoundAnswer {
     Hundredths(u64),
     Refused(Refusal),

@@ -1,9 +1,11 @@
 // The bits of a mark that a call goes by: all eight, or the two of a team.
+#![tactic(auto)]
+
 ghost use Rattle.std.specs.Prelude.{◌≡◌, ◌<◌};
 ghost use Rattle.bits.specs.Own.{own_of, with_own};
 
 // Which bits of each mark are a call's own: all eight, bits 0 and 1, or bits 2 and 3.
-#[derive(Drop)]
+#[derive(Clone, Copy)]
 pub enum Bits {
     All,
     Low,

@@ -1,4 +1,6 @@
 // The blackboard method, request K12: the draw and the projection as a teacher walks them, counting lines off from the first for each point.
+#![tactic(auto)]
+
 pub mod points; // points.rt: counting off to a point, and the marks
 pub mod sums; // sums.rt: the lines added up by their marks
 
@@ -13,14 +15,14 @@ use split::{Figures, SplitAnswer};
 use terms::{Cent, Refusal};
 
 // How many lines are drawn, or the first refusal.
-#[derive(Drop)]
+#[derive(Clone, Copy)]
 pub enum BoardDrawAnswer {
     Drawn(u64),
     Refused(Refusal),
 }
 
 // Of one kind of error: the full lines' errors, the drawn lines' amounts, and the number of drawn lines with an error.
-#[derive(Drop)]
+#[derive(Clone, Copy)]
 pub struct BoardSums {
     pub full: u64,
     pub sampled: u64,
@@ -28,21 +30,21 @@ pub struct BoardSums {
 }
 
 // The sums of each kind.
-#[derive(Drop)]
+#[derive(Clone, Copy)]
 pub struct BoardKinds {
     pub over: BoardSums,
     pub under: BoardSums,
 }
 
 // The sums of each kind with one line more, or the line's refusal.
-#[derive(Drop)]
+#[derive(Clone, Copy)]
 enum AddAnswer {
     Added(BoardKinds),
     Refused(Refusal),
 }
 
 // The sums of the overstatements and their m, those of the understatements as sizes, and the net with its sign.
-#[derive(Drop)]
+#[derive(Clone, Copy)]
 pub struct BoardProjection {
     pub full: u64,
     pub sampled: u64,
@@ -52,14 +54,14 @@ pub struct BoardProjection {
     pub net: i64,
 }
 
-#[derive(Drop)]
+#[derive(Clone, Copy)]
 pub enum BoardProjectAnswer {
     Projected(BoardProjection),
     Refused(Refusal),
 }
 
 // A drawing point, and the line at which counting off to it stops.
-#[derive(Drop)]
+#[derive(Clone, Copy)]
 pub struct Walker {
     pub point: u64,
     pub stop: usize,

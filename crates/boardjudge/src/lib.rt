@@ -1,4 +1,6 @@
 // The judgement by the blackboard method, request K12: projection and amounts by walking, and what follows from them as in the first judgement.
+#![tactic(auto)]
+
 mod amounts; // amounts.rt: the amounts of the drawn lines
 
 ghost use Rattle.std.specs.Prelude.{◌≡◌, length};

@@ -1,4 +1,6 @@
 // Every operation, called: its answer in the one shape that the test programs print.
+#![tactic(auto)]
+
 use answers::{Answer, Rest};
 use results::{
     DrawResult, PostResult, ProjectResult, SplitResult, StrataPlanResult, StrataProjectResult,
@@ -22,7 +24,7 @@ fn answer(refusal: u64, place: u64, figures: [u64; 5], count: usize) -> Answer {
 }
 
 pub fn size(level: u8, total: u64, te: u64, ae: u64) -> Answer {
-    let r = results::steps::of_size(size::size(level, total, te, ae));
+    let r = results::method::of_size(size::size(level, total, te, ae));
     answer(r.refusal, r.place, [r.draws, 0, 0, 0, 0], 1)
 }
 
@@ -38,17 +40,17 @@ fn of_split(r: SplitResult) -> Answer {
 }
 
 pub fn split(ledger: &[u64], n: u64, marks: &mut [u8]) -> Answer {
-    of_split(results::steps::of_split(split::split(ledger, n, marks)))
+    of_split(results::method::of_split(split::split(ledger, n, marks)))
 }
 
 // The split's figures, without marks.
 pub fn split_figures(ledger: &[u64], n: u64) -> Answer {
     let figures = split::split_figures(ledger, n, ledger.len());
-    of_split(results::steps::of_split(figures))
+    of_split(results::method::of_split(figures))
 }
 
 pub fn start(interval: u64, words: &[u64]) -> Answer {
-    let r = results::steps::of_start(start::start(interval, words));
+    let r = results::method::of_start(start::start(interval, words));
     answer(r.refusal, r.place, [r.start, r.words, 0, 0, 0], 2)
 }
 
@@ -57,7 +59,7 @@ fn of_draw(r: DrawResult) -> Answer {
 }
 
 pub fn draw(ledger: &[u64], n: u64, start: u64, marks: &mut [u8]) -> Answer {
-    of_draw(results::steps::of_draw(draw::draw(ledger, n, start, marks)))
+    of_draw(results::method::of_draw(draw::draw(ledger, n, start, marks)))
 }
 
 fn of_project(r: ProjectResult) -> Answer {
@@ -71,7 +73,7 @@ fn of_project(r: ProjectResult) -> Answer {
 }
 
 pub fn project(ledger: &[u64], n: u64, start: u64, errors: &[i64]) -> Answer {
-    of_project(results::steps::of_project(project::project(ledger, n, start, errors)))
+    of_project(results::method::of_project(project::project(ledger, n, start, errors)))
 }
 
 pub fn project_lines(
@@ -81,11 +83,11 @@ pub fn project_lines(
     errors: &[i64],
     amounts: &mut [i64],
 ) -> Answer {
-    of_project(results::steps::of_project(lines::project_lines(ledger, n, start, errors, amounts)))
+    of_project(results::method::of_project(lines::project_lines(ledger, n, start, errors, amounts)))
 }
 
 pub fn judge(level: u8, ledger: &[u64], n: u64, start: u64, errors: &[i64], te: u64) -> Answer {
-    let r = results::steps::of_judge(judge::judge(level, ledger, n, start, errors, te));
+    let r = results::method::of_judge(judge::judge(level, ledger, n, start, errors, te));
     Answer {
         refusal: r.refusal,
         place: r.place,
@@ -187,11 +189,11 @@ pub fn post_all(
 
 // Two teams on one ledger: the same by the acting team's own bits.
 pub fn team_split(team: u8, ledger: &[u64], n: u64, marks: &mut [u8]) -> Answer {
-    of_split(results::steps::of_split(teams::team_split(team, ledger, n, marks)))
+    of_split(results::method::of_split(teams::team_split(team, ledger, n, marks)))
 }
 
 pub fn team_draw(team: u8, ledger: &[u64], n: u64, start: u64, marks: &mut [u8]) -> Answer {
-    of_draw(results::steps::of_draw(teams::team_draw(team, ledger, n, start, marks)))
+    of_draw(results::method::of_draw(teams::team_draw(team, ledger, n, start, marks)))
 }
 
 pub fn team_post(

@@ -1,4 +1,6 @@
 // The confidence statement of a control test in figures: items, exceptions, and the upper bound in percent with two decimals; and the line that asks for it.
+#![tactic(auto)]
+
 ghost use Rattle.std.specs.Prelude.{◌≡◌, ◌∷◌, []};
 ghost use Rattle.pen.specs.Page.{Wrote, Printed};
 ghost use Rattle.pen.specs.Text.{more};
@@ -14,7 +16,7 @@ use pen::Pen;
 pub const LONGEST_STATEMENT: usize = 76;
 
 // How many bytes the answer to a line is; or that the text does not begin with a line of three numbers.
-#[derive(Drop)]
+#[derive(Clone, Copy)]
 pub enum LineAnswer {
     Answered(usize),
     NoLine,

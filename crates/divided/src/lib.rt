@@ -1,4 +1,6 @@
 // A ledger in strata: how many strata its text has, how many lines each, or the first line that stands where it may not.
+#![tactic(auto)]
+
 mod parts; // parts.rt: what a line is to the strata, and what it adds
 
 ghost use Rattle.std.specs.Prelude.{◌≡◌};
@@ -15,7 +17,7 @@ const FIRST_LINE: usize = 1;
 pub const STORED: usize = 33;
 
 // What a line is to the strata.
-#[derive(Drop)]
+#[derive(Clone, Copy)]
 enum Part {
     Stratum,
     Word,
@@ -25,14 +27,14 @@ enum Part {
 }
 
 // Whether a line may stand where it does, or what is wrong.
-#[derive(Drop)]
+#[derive(Clone, Copy)]
 enum Ordered {
     Fits,
     Not(Wrong),
 }
 
 // What the lines so far say: how many S, whether E or U, the lines of L since the last S, and the counts of the strata before that.
-#[derive(Drop)]
+#[derive(Clone, Copy)]
 struct Dividing {
     strata: usize,
     late: bool,
@@ -40,14 +42,14 @@ struct Dividing {
     counts: [u64; STORED],
 }
 
-#[derive(Drop)]
+#[derive(Clone, Copy)]
 pub enum DividedAnswer {
     InStrata(usize),
     Faulty(Fault),
 }
 
 // The number of strata, all of them, or the first fault; and the first counts, 0 where there is none.
-#[derive(Drop)]
+#[derive(Clone, Copy)]
 pub struct Divided {
     pub answer: DividedAnswer,
     pub counts: [u64; STORED],

@@ -1,4 +1,6 @@
 // The draw: step 4, from point to point along the row.
+#![tactic(auto)]
+
 ghost use Rattle.std.specs.Prelude.{◌≡◌, length};
 ghost use Rattle.split.specs.Split.{full_marks};
 ghost use Rattle.draw.specs.Row.{cents};
@@ -9,7 +11,7 @@ use split::SplitAnswer;
 use terms::{Cent, Item, Refusal};
 
 // How many lines are drawn, or the first refusal.
-#[derive(Drop)]
+#[derive(Clone, Copy)]
 pub enum DrawAnswer {
     Drawn(u64),
     Refused(Refusal),
@@ -23,7 +25,7 @@ fn cents_of(value: u64, interval: u64) -> u64
 }
 
 // An item, and the cent of the row at which it begins.
-#[derive(Drop)]
+#[derive(Clone, Copy)]
 struct Place {
     item: Item,
     first: Cent,

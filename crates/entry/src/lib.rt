@@ -1,4 +1,6 @@
 // One line of the text from which a working file is made: its fields, its numbers and its record.
+#![tactic(auto)]
+
 pub mod fields; // fields.rt: the bytes of a line, its fields and numbers
 pub mod body; // body.rt: the numbers of a line
 pub mod records; // records.rt: the record of a line
@@ -6,14 +8,14 @@ pub mod records; // records.rt: the record of a line
 use workfile::FileRecord;
 
 // The notations of a text: the desk's, and that of a ledger in strata.
-#[derive(Drop)]
+#[derive(Clone, Copy)]
 pub enum Notation {
     Desk,
     Programmes,
 }
 
 // What is wrong with a line; the last is wrong with the call.
-#[derive(Drop)]
+#[derive(Clone, Copy)]
 pub enum Wrong {
     UnknownKind,
     NumberMissing,
@@ -36,42 +38,42 @@ pub enum Wrong {
 }
 
 // What a run of bytes goes on over.
-#[derive(Drop)]
+#[derive(Clone, Copy)]
 pub enum Run {
     Blanks,
     Field,
     Line,
 }
 
-#[derive(Drop)]
+#[derive(Clone, Copy)]
 pub enum NumberAnswer {
     Number(u64),
     NoNumber(Wrong),
 }
 
 // The next number of a line and the place after it.
-#[derive(Drop)]
+#[derive(Clone, Copy)]
 pub enum NextAnswer {
     Next(u64, usize),
     NoNext(Wrong),
 }
 
 // The last three numbers of a line; where it has fewer, the others are 0.
-#[derive(Drop)]
+#[derive(Clone, Copy)]
 pub struct Numbers {
     pub first: u64,
     pub second: u64,
     pub third: u64,
 }
 
-#[derive(Drop)]
+#[derive(Clone, Copy)]
 pub enum NumbersAnswer {
     Read(Numbers),
     Unread(Wrong),
 }
 
 // What a line holds: P or N, the S that opens a stratum, or another record of the working file; a blank line and a comment hold nothing.
-#[derive(Drop)]
+#[derive(Clone, Copy)]
 pub enum Record {
     Nothing,
     Plan(u64, u64, u64),
@@ -81,7 +83,7 @@ pub enum Record {
 }
 
 // A line of a text: what it holds, and where the next begins.
-#[derive(Drop)]
+#[derive(Clone, Copy)]
 pub struct TextLine {
     pub found: Record,
     pub next: usize,

@@ -1,4 +1,6 @@
 // The factors of document 01: nine levels, an expansion factor for each, and sixty-four reliability factors for each.
+#![tactic(auto)]
+
 ghost use Rattle.std.specs.Prelude.{◌≡◌, length, pos, ◌-ℤ◌};
 ghost use Rattle.factors.specs.Levels.{LevelPromise, row_of, ef};
 ghost use Rattle.factors.specs.Factors.{factors_of, Reliability};
@@ -8,7 +10,7 @@ use terms::Refusal;
 mod table;
 
 // The nine levels, in the order of the table's rows.
-#[derive(Drop)]
+#[derive(Clone, Copy)]
 pub enum Level {
     P99,
     P95,
@@ -22,7 +24,7 @@ pub enum Level {
 }
 
 // The level of a percent, or refusal 1.
-#[derive(Drop)]
+#[derive(Clone, Copy)]
 pub enum LevelAnswer {
     Known(Level),
     Refused(Refusal),

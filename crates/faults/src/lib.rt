@@ -1,4 +1,6 @@
 // A fault of a text in words, as one line.
+#![tactic(auto)]
+
 ghost use Rattle.std.specs.Prelude.{◌≡◌};
 ghost use Rattle.entry.specs.declared.Notation.TheVariants.{Desk, Programmes};
 ghost use Rattle.entry.specs.declared.Wrong.TheVariants.{UnknownKind, NoPlan, SecondPlan, OutOfOrder};
@@ -10,7 +12,7 @@ use notation::Fault;
 use pen::Pen;
 
 // A pen, the notation of the text and the fault that it is to say.
-#[derive(Drop)]
+#[derive(Clone, Copy)]
 struct Saying {
     pen: Pen,
     by: Notation,

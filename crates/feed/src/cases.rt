@@ -2,41 +2,52 @@
 use crate::input::four;
 use parts::{front, front_to_fill};
 use pen::Pen;
+use std::io;
 
 // Says what is wrong with a case, in a line that no answer has; there is no case then.
-fn stop(number: u64, wrong: &[u8]) -> usize {
+fn stop(rt: &impl Print, number: u64, wrong: &[u8]) -> io::Result<usize> {
     let mut page = [0u8; 80];
     let start = Pen { at: 0 };
     let numbered = start.number(&mut page, number);
     let told = numbered.text(&mut page, wrong);
-    answers::write_line(&mut page, told);
-    0
+    answers::write_line(rt, &mut page, told)?;
+    Ok(0)
 }
 
 // The length of the next case.
-fn length(number: u64) -> usize {
+fn length(rt: &(impl Input + Print), number: u64) -> io::Result<usize> {
     let mut header = [0u8; 4];
-    let got = io::read_full(0, &mut header);
+    let got = streams::read_full(&mut rt.reader(), &mut header)?;
     if got < 4 {
-        return stop(number, b" has no length, and no end stands before it");
+        return stop(rt, number, b" has no length, and no end stands before it");
     }
-    four(&header, 0) as usize
+    Ok(four(&header, 0) as usize)
 }
 
 // The bytes of a case of this length; the answer is how many there are.
-fn read(number: u64, input: &mut [u8], length: usize) -> usize {
+fn read(
+    rt: &(impl Input + Print),
+    number: u64,
+    input: &mut [u8],
+    length: usize,
+) -> io::Result<usize> {
     if length > input.len() {
-        return stop(number, b" is longer than the room for a case");
+        return stop(rt, number, b" is longer than the room for a case");
     }
-    let got = io::read_full(0, front_to_fill(input, length));
+    let got = streams::read_full(&mut rt.reader(), front_to_fill(input, length))?;
     if got < length {
-        return stop(number, b" is cut short");
+        return stop(rt, number, b" is cut short");
     }
-    length
+    Ok(length)
 }
 
 // The next case, read into a buffer; no bytes where there is none.
-pub fn next(number: u64, input: &mut [u8]) -> &[u8] {
-    let count = read(number, input, length(number));
-    front(input, count)
+pub fn next<'a>(
+    rt: &(impl Input + Print),
+    number: u64,
+    input: &'a mut [u8],
+) -> io::Result<&'a [u8]> {
+    let length = length(rt, number)?;
+    let count = read(rt, number, input, length)?;
+    Ok(front(input, count))
 }

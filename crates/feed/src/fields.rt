@@ -6,7 +6,7 @@ use parts::{part, part_to_fill};
 // The place of the first list.
 const LISTS: usize = 30;
 
-#[derive(Drop)]
+#[derive(Clone, Copy)]
 pub struct Case {
     pub operation: u8,
     pub level: u8,
@@ -28,7 +28,7 @@ pub fn numbers(input: &[u8]) -> Case {
 }
 
 // How many entries the ledger and the words of a case have.
-#[derive(Drop)]
+#[derive(Clone, Copy)]
 pub struct Lists {
     pub ledger: usize,
     pub words: usize,

@@ -2,6 +2,7 @@
 use crate::rooms::{digest_bytes, digest_numbers, digest_signed};
 use answers::Answer;
 use pen::Pen;
+use std::io;
 
 // The name of a step.
 fn put_step(pen: Pen, page: &mut [u8], operation: u8) -> Pen {
@@ -91,7 +92,7 @@ fn put_name(pen: Pen, page: &mut [u8], operation: u8) -> Pen {
 
 // The digests of what was lent: the room or the file, and each list; amounts, or counts and starts, a batch of findings or a summary, stand in the
 // place of the words, and a salvage's file in that of the ledger. And that of the strata's rows, of a season's tallies, or of an old Z.
-#[derive(Drop)]
+#[derive(Clone, Copy)]
 struct Digests {
     bytes: u64,
     ledger: u64,
@@ -182,13 +183,20 @@ fn put_case(page: &mut [u8], number: u64, operation: u8, answer: Answer, digests
 }
 
 // Writes the line.
-fn write(number: u64, operation: u8, answer: Answer, digests: Digests) {
+fn write(
+    rt: &impl Print,
+    number: u64,
+    operation: u8,
+    answer: Answer,
+    digests: Digests,
+) -> io::Result<()> {
     let mut page = [0u8; 256];
     let told = put_case(&mut page, number, operation, answer, digests);
-    answers::write_line(&mut page, told);
+    answers::write_line(rt, &mut page, told)
 }
 
 pub fn tell(
+    rt: &impl Print,
     number: u64,
     operation: u8,
     answer: Answer,
@@ -196,7 +204,7 @@ pub fn tell(
     ledger: &[u64],
     errors: &[i64],
     words: &[u64],
-) {
+) -> io::Result<()> {
     let digests = Digests {
         bytes: digest_bytes(bytes),
         ledger: digest_numbers(ledger),
@@ -204,11 +212,18 @@ pub fn tell(
         words: digest_numbers(words),
         rows: 0,
     };
-    write(number, operation, answer, digests);
+    write(rt, number, operation, answer, digests)
 }
 
 // The line of a case of the projected lines.
-pub fn tell_lines(number: u64, answer: Answer, ledger: &[u64], errors: &[i64], amounts: &[i64]) {
+pub fn tell_lines(
+    rt: &impl Print,
+    number: u64,
+    answer: Answer,
+    ledger: &[u64],
+    errors: &[i64],
+    amounts: &[i64],
+) -> io::Result<()> {
     let digests = Digests {
         bytes: 0,
         ledger: digest_numbers(ledger),
@@ -216,11 +231,12 @@ pub fn tell_lines(number: u64, answer: Answer, ledger: &[u64], errors: &[i64], a
         words: digest_signed(amounts),
         rows: 0,
     };
-    write(number, 9, answer, digests);
+    write(rt, number, 9, answer, digests)
 }
 
 // The line of a case that has the strata's rows, or a season's tallies.
 pub fn tell_rows(
+    rt: &impl Print,
     number: u64,
     operation: u8,
     answer: Answer,
@@ -228,7 +244,7 @@ pub fn tell_rows(
     ledger: &[u64],
     errors: &[i64],
     words: &[u64],
-) {
+) -> io::Result<()> {
     let digests = Digests {
         bytes: 0,
         ledger: digest_numbers(ledger),
@@ -236,11 +252,18 @@ pub fn tell_rows(
         words: digest_numbers(words),
         rows,
     };
-    write(number, operation, answer, digests);
+    write(rt, number, operation, answer, digests)
 }
 
 // The line of a salvage: `old` is the digest of an old Z.
-pub fn tell_salvage(number: u64, answer: Answer, old: u64, file: &[u8], room: &[u8]) {
+pub fn tell_salvage(
+    rt: &impl Print,
+    number: u64,
+    answer: Answer,
+    old: u64,
+    file: &[u8],
+    room: &[u8],
+) -> io::Result<()> {
     let digests = Digests {
         bytes: digest_bytes(room),
         ledger: digest_bytes(file),
@@ -248,5 +271,5 @@ pub fn tell_salvage(number: u64, answer: Answer, old: u64, file: &[u8], room: &[
         words: 0,
         rows: old,
     };
-    write(number, 24, answer, digests);
+    write(rt, number, 24, answer, digests)
 }

@@ -42,6 +42,9 @@ pub file_refused : {file w v w' v' : List ℕ} {e e' : List ℤ} {r : ReadAnswer
 unfolding file_entry
 file_refused rooms p why is = sym (ap read_entry (read_refused rooms p why is))
 
+pub at_read : {file w₀ v₀ w v : List ℕ} {e₀ e : List ℤ} {r : ReadAnswer} {k : Contents} → Rooms w₀ v₀ e₀ → ReadPromise file w₀ v₀ e₀ r w v e → r ≡ ReadAnswer.Read k → AtRead file k w v e
+at_read rooms p is = record { words = _; values = _; errors = _; answer = _; rooms = rooms; promise = p; told = is }
+
 pub file_read : {file : List ℕ} {k : Contents} {w v : List ℕ} {e : List ℤ} {r : Entry} → AtRead file k w v e →
     r ≡ content_entry (plan_with k.level k.te k.ae) (take k.words w) (take k.lines v) (take k.lines e) → r ≡ file_entry file
 unfolding file_entry

@@ -1,4 +1,6 @@
 // The tally of working files that stand in a row: each is judged as at the desk, and added.
+#![tactic(auto)]
+
 ghost use Rattle.std.specs.Prelude.{◌≡◌};
 ghost use Rattle.season.specs.Tally.{no_tally};
 ghost use Rattle.season.specs.Add.{add_says, AddPromise};
@@ -9,7 +11,7 @@ use steps::StepsAnswer;
 use workfile::{Plan, ReadAnswer};
 
 // The first file of a row as it is added, and where the next begins.
-#[derive(Drop)]
+#[derive(Clone, Copy)]
 struct First {
     entry: Entry,
     next: usize,

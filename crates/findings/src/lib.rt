@@ -1,4 +1,6 @@
 // Findings: errors that were found, posted beside the ledger singly or by the batch.
+#![tactic(auto)]
+
 ghost use Rattle.std.specs.Prelude.{◌≡◌, length};
 ghost use Rattle.bits.specs.Own.{bits_of};
 ghost use Rattle.findings.specs.Findings.{pair_says, misplaced, equally_long, line_of, PostPromise};
@@ -8,14 +10,14 @@ use bits::Bits;
 use terms::Refusal;
 
 // How many pairs were posted, or the first refusal.
-#[derive(Drop)]
+#[derive(Clone, Copy)]
 pub enum PostAnswer {
     Posted(u64),
     Refused(Refusal),
 }
 
 // The line on which a finding may stand, or the refusal.
-#[derive(Drop)]
+#[derive(Clone, Copy)]
 enum PairAnswer {
     Line(usize),
     Refused(Refusal),

@@ -2,7 +2,7 @@
 use mathlib.Core.Path.{◌≡◌, refl, sym, ap, subst, ◌∙◌}
 use mathlib.Core.Bool.{Bool, true}
 use mathlib.Core.List.{List, [], ◌∷◌}
-use Prim.Native.Nat.{ℕ, ◌≤◌, ◌<◌}
+use Prim.Native.Nat.{ℕ, ◌+◌, ◌≤◌, ◌<◌}
 use native.Mathlib.Omega.{arith}
 use borrow.Author.Tests.{eq-eqb, eqb-true, eqb-false}
 use lib.Dec.{T, eqb, ltb}
@@ -104,7 +104,7 @@ projected_gives first [] rows starts errors = tt
 projected_gives first (part ∷ parts) rows starts errors =
     gives_after line_numbers _ (projection_at first (get_or rows 0 no_row).figures.interval (get_or starts 0 0) part (get_or errors 0 []))
     (projection_gives first (get_or rows 0 no_row).figures.interval (get_or starts 0 0) part (get_or errors 0 []))
-    (λ sums. gives_after line_numbers _ (projected_from _ parts (drop 1 rows) (drop 1 starts) (drop 1 errors)) (projected_gives _ parts (drop 1 rows) (drop 1 starts) (drop 1 errors)) (λ others. tt))
+    (λ sums. gives_after line_numbers _ (projected_from (first + length part) parts (drop 1 rows) (drop 1 starts) (drop 1 errors)) (projected_gives (first + length part) parts (drop 1 rows) (drop 1 starts) (drop 1 errors)) (λ others. tt))
 
 -- at the starts chosen the projection gives 14 and 15 alone
 own_gives : (draws : ℕ) (counts words ledger : List ℕ) (errors : List ℤ) (rows : List Row) (chosen : List Chosen) → length errors ≡ length ledger → plan_of ledger counts draws true ≡ accepted rows →

@@ -1,4 +1,6 @@
 // The sheet of a ledger in strata: its text, from a content.
+#![tactic(auto)]
+
 mod lines; // lines.rt: the lines of the sheet
 
 ghost use Rattle.std.specs.Prelude.{◌≤◌, length};
@@ -11,7 +13,7 @@ use strata::{Row, StrataAnswer};
 use stratified::projection::{ProjectedStrata, project_strata};
 
 // The strata's rows of the plan, their starts, the words that each has read, and the projection.
-#[derive(Drop)]
+#[derive(Clone, Copy)]
 pub struct Answers {
     pub rows: [Row; 32],
     pub starts: [u64; 32],

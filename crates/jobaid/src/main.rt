@@ -1,7 +1,10 @@
 // The attribute job aid: reads a line of level, tolerance and exceptions from standard input and writes the confidence statement in figures to
 // standard output, or the line of the first refusal. Where the line is no such line it says so to standard error and writes nothing else.
+#![tactic(auto)]
+
 use confidence::LineAnswer;
 use entry::Run;
+use std::io;
 
 // A longer line is not taken.
 const MOST_LINE: usize = 80;
@@ -17,19 +20,14 @@ fn taken(text: &[u8]) -> &[u8] {
     text
 }
 
-fn main() {
+fn main(rt: HostRuntime) -> io::Result<()> {
     let mut text = [0u8; LINE_ROOM];
     let mut page = [0u8; confidence::LONGEST_STATEMENT];
-    let length = io::read_full(libc::STDIN_FILENO, &mut text);
+    let length = streams::read_full(&mut rt.stdin(), &mut text)?;
     match confidence::answer_line(taken(parts::front(&text, length)), &mut page) {
-        LineAnswer::Answered(bytes) => {
-            io::write_all(libc::STDOUT_FILENO, &page[..bytes]);
-        }
-        LineAnswer::NoLine => {
-            io::write_all(
-                libc::STDERR_FILENO,
-                b"a line is asked for of level, tolerance and exceptions, as 90 5 2\n",
-            );
-        }
+        LineAnswer::Answered(bytes) => rt.write_all(&page[..bytes]),
+        LineAnswer::NoLine => rt.stderr().write_all(
+            b"a line is asked for of level, tolerance and exceptions, as 90 5 2\n",
+        ),
     }
 }

@@ -1,4 +1,6 @@
 // The judgement: upper limit and verdict, steps 6 and 7. Both look at overstatements alone.
+#![tactic(auto)]
+
 ghost use Rattle.std.specs.Prelude.{◌≡◌, ◌+◌, ◌^◌, ◌<◌, length, take};
 ghost use Rattle.terms.specs.Outcome.{accepted};
 ghost use Rattle.ledger.specs.Ledger.{ledger_of};
@@ -11,7 +13,7 @@ use project::{ProjectAnswer, Projection};
 use split::SplitAnswer;
 use terms::{Cent, Item, Refusal};
 
-#[derive(Drop)]
+#[derive(Clone, Copy)]
 pub enum Verdict {
     Below,
     Inconclusive,
@@ -19,7 +21,7 @@ pub enum Verdict {
 }
 
 // The projection's answer with the precision, the upper limit and the verdict.
-#[derive(Drop)]
+#[derive(Clone, Copy)]
 pub struct Judgement {
     pub projection: Projection,
     pub precision: u64,
@@ -27,7 +29,7 @@ pub struct Judgement {
     pub verdict: Verdict,
 }
 
-#[derive(Drop)]
+#[derive(Clone, Copy)]
 pub enum JudgeAnswer {
     Judged(Judgement),
     Refused(Refusal),

@@ -1,11 +1,13 @@
 // The judgement of a lent ledger: its length, its lines one by one, and its total.
+#![tactic(auto)]
+
 ghost use Rattle.std.specs.Prelude.{◌≡◌};
 ghost use Rattle.ledger.specs.Ledger.{ledger_says, running_total, ledger_with, LedgerPromise};
 
 use terms::Refusal;
 
 // A ledger's total, or the first refusal.
-#[derive(Drop)]
+#[derive(Clone, Copy)]
 pub enum LedgerAnswer {
     Total(u64),
     Refused(Refusal),

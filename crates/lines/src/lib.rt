@@ -1,4 +1,6 @@
 // The projected lines: the projection, and what each line projects, with the sign of its error.
+#![tactic(auto)]
+
 ghost use Rattle.std.specs.Prelude.{◌≡◌, ◌≤◌, length};
 ghost use Rattle.terms.specs.Limits.{most_interval};
 ghost use Rattle.signed.specs.declared.Part.TheVariants.{Size};

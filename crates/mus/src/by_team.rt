@@ -14,7 +14,7 @@ use results::{DrawResult, PostResult, SplitResult};
 pub extern "C" fn mus_team_split(team: u8, ledger: &[u64], n: u64, marks: &mut [u8]) -> SplitResult
     ensures { Sees split_seen split_says (λ a. TeamSplitPromise team ledger.now n marks.old a marks.new) result }
 {
-    results::steps::of_split(teams::team_split(team, ledger, n, marks))
+    results::method::of_split(teams::team_split(team, ledger, n, marks))
 }
 
 // A team's draw, and the marks: in its own bits 1 for drawn, 2 for full, 0 for the others.
@@ -28,7 +28,7 @@ pub extern "C" fn mus_team_draw(
 ) -> DrawResult
     ensures { Sees draw_seen draw_says (λ a. TeamDrawPromise team ledger.now n start marks.old a marks.new) result }
 {
-    results::steps::of_draw(teams::team_draw(team, ledger, n, start, marks))
+    results::method::of_draw(teams::team_draw(team, ledger, n, start, marks))
 }
 
 // One finding of a team: the error of a line.

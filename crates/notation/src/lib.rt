@@ -1,4 +1,6 @@
 // The text from which a working file is made: one record a line, in the practice sheet's own notation or in that of a ledger in strata.
+#![tactic(auto)]
+
 mod lines; // lines.rt: what a line adds, by the rules of the working file
 
 ghost use Rattle.std.specs.Prelude.{◌≡◌, false, ◌<◌, length};
@@ -15,20 +17,20 @@ use workfile::{Contents, FileRecord, Plan, Tally};
 const FIRST_LINE: usize = 1;
 
 // The number of a line of the text and what is wrong there.
-#[derive(Drop)]
+#[derive(Clone, Copy)]
 pub struct Fault {
     pub line: usize,
     pub wrong: Wrong,
 }
 
-#[derive(Drop)]
+#[derive(Clone, Copy)]
 pub enum ParseAnswer {
     Parsed(Contents),
     Faulty(Fault),
 }
 
 // What the lines so far say: whether P or N was among them, its plan, and the counts of the records after it.
-#[derive(Drop)]
+#[derive(Clone, Copy)]
 struct State {
     planned: bool,
     plan: Plan,
@@ -36,14 +38,14 @@ struct State {
 }
 
 // A line by those before it: the state with it, or what is wrong.
-#[derive(Drop)]
+#[derive(Clone, Copy)]
 enum Taken {
     With(State),
     Not(Wrong),
 }
 
 // A line at a place of the text: its record, the state with it and where the next begins; or what is wrong.
-#[derive(Drop)]
+#[derive(Clone, Copy)]
 enum Turn {
     On(Record, State, usize),
     Stop(Wrong),

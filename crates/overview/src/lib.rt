@@ -1,4 +1,6 @@
 // The season's sheet: the text of the tally of working files that stand in a row.
+#![tactic(auto)]
+
 pub mod lines; // lines.rt: the lines of the sheet
 
 ghost use Rattle.pen.specs.Page.{Printed};

@@ -1,22 +1,33 @@
 // Makes a working file: reads a text in the notation from standard input and writes its file to standard output, after the byte 0x42 where the text
 // asks for the blackboard method; or writes what is wrong with the text to standard error, one line, and nothing to standard output.
+#![tactic(auto)]
+
 mod method; // method.rt: whether a text asks for the blackboard method
 
 use crate::method::letter_place;
 use entry::Notation;
 use notation::ParseAnswer;
+use std::io;
 use typed::Typed;
 use workfile::{Contents, WriteAnswer};
 
 // The byte before the file of a text that asks for the blackboard method.
-fn put_method(board: bool) {
+fn put_method(rt: &HostRuntime, board: bool) -> io::Result<()> {
     if board {
-        io::write_all(libc::STDOUT_FILENO, b"B");
+        rt.write_all(b"B")?;
     }
+    Ok(())
 }
 
 // The file of a content, written at once.
-fn put_file(board: bool, contents: Contents, words: &[u64], values: &[u64], errors: &[i64]) {
+fn put_file(
+    rt: &HostRuntime,
+    board: bool,
+    contents: Contents,
+    words: &[u64],
+    values: &[u64],
+    errors: &[i64],
+) -> io::Result<()> {
     let mut file = [0u8; workfile::LONGEST_FILE];
     match writer::write(
         contents.level,
@@ -29,51 +40,50 @@ fn put_file(board: bool, contents: Contents, words: &[u64], values: &[u64], erro
     ) {
         WriteAnswer::Written(length) => {
             let end = length as usize;
-            put_method(board);
-            io::write_all(libc::STDOUT_FILENO, &file[..end]);
+            put_method(rt, board)?;
+            rt.write_all(&file[..end])
         }
         // no text earns this: `text_writes` of crate notation
-        WriteAnswer::Refused(_) => {
-            typed::say(b"the text has no file\n");
-        }
+        WriteAnswer::Refused(_) => typed::say(&rt.stderr(), b"the text has no file\n"),
     }
 }
 
-fn pack(board: bool, text: &[u8]) {
+fn pack(rt: &HostRuntime, board: bool, text: &[u8]) -> io::Result<()> {
     let mut words = [0u64; workfile::MOST_WORDS];
     let mut values = [0u64; workfile::MOST_FILE_LINES];
     let mut errors = [0i64; workfile::MOST_FILE_LINES];
     match notation::parse(text, Notation::Desk, &mut words, &mut values, &mut errors) {
-        ParseAnswer::Faulty(fault) => typed::say_fault(fault, Notation::Desk),
+        ParseAnswer::Faulty(fault) => typed::say_fault(&rt.stderr(), fault, Notation::Desk),
         ParseAnswer::Parsed(contents) => {
             let count = contents.words as usize;
             let lines = contents.lines as usize;
             put_file(
+                rt,
                 board,
                 contents,
                 &words[..count],
                 &values[..lines],
                 &errors[..lines],
-            );
+            )
         }
     }
 }
 
 // The letter B of a text that asks for the blackboard method becomes a blank, so that its line holds nothing and the others keep their numbers.
-fn pack_text(text: &mut [u8]) {
+fn pack_text(rt: &HostRuntime, text: &mut [u8]) -> io::Result<()> {
     let letter = letter_place(text);
     if letter < text.len() {
         text[letter] = 32;
-        pack(true, text);
+        pack(rt, true, text)
     } else {
-        pack(false, text);
+        pack(rt, false, text)
     }
 }
 
-fn main() {
+fn main(rt: HostRuntime) -> io::Result<()> {
     let mut text = [0u8; typed::TEXT_ROOM];
-    match typed::read_text(&mut text) {
-        Typed::Nothing => {}
-        Typed::Text(length) => pack_text(&mut text[..length]),
+    match typed::read_text(&mut rt.stdin(), &rt.stderr(), &mut text)? {
+        Typed::Nothing => Ok(()),
+        Typed::Text(length) => pack_text(&rt, &mut text[..length]),
     }
 }

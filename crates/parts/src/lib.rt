@@ -1,4 +1,5 @@
 // Parts of lent buffers. What would reach past the end of a buffer is the whole buffer.
+#![tactic(auto)]
 
 // So many bytes from the start.
 pub fn front(bytes: &[u8], count: usize) -> &[u8] {

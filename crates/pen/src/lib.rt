@@ -1,10 +1,12 @@
 // Text as bytes, written on a lent page. At the end of the page the pen stops, so every call is allowed.
+#![tactic(auto)]
+
 ghost use Rattle.std.specs.Prelude.{◌∷◌, [], map};
 ghost use Rattle.pen.specs.Text.{decimal, sized_text, signed_text, fields as fieldsText, line as lineText};
 ghost use Rattle.pen.specs.Page.{Wrote};
 
 // The place of the next byte.
-#[derive(Drop)]
+#[derive(Clone, Copy)]
 pub struct Pen {
     pub at: usize,
 }

@@ -2,9 +2,10 @@
 // printed figure, in euro; what is expected and found is in cents. docs/WORKED-EXAMPLE.md says why they differ.
 ghost use Rattle.std.specs.Prelude.{◌≡◌, ◌<◌, ◌≤◌, length};
 
-use crate::lines;
-use crate::lines::found;
+use crate::output;
+use crate::output::found;
 use factors::Level;
+use std::io;
 
 // The tolerable error, 2 percent of the total.
 const TE: u64 = 8_399_764_048;
@@ -12,8 +13,8 @@ const TE: u64 = 8_399_764_048;
 // The total over 136 draws.
 const INTERVAL: u64 = 3_088_148_547;
 
-pub fn draws() {
-    found(calls::size(90, 419_988_202_400, TE, 839_976_404));
+pub fn draws(rt: &(impl Input + Print)) -> io::Result<()> {
+    found(rt, calls::size(90, 419_988_202_400, TE, 839_976_404))
 }
 
 // The document's total in 137 lines, none above the interval. The first is drawn at start 0, and has 1000 cents, so that its
@@ -27,39 +28,39 @@ fn ledger() -> [u64; 137]
     lines
 }
 
-pub fn interval() {
+pub fn interval(rt: &(impl Input + Print)) -> io::Result<()> {
     let lines = ledger();
-    found(calls::split_figures(&lines, 136));
+    found(rt, calls::split_figures(&lines, 136))
 }
 
 // The projected error of one rate.
-fn projected(rate: i64) {
+fn projected(rt: &(impl Input + Print), rate: i64) -> io::Result<()> {
     let lines = ledger();
     let mut errors = [0i64; 137];
     errors[0] = rate;
-    found(calls::project(&lines, 136, 0, &errors));
+    found(rt, calls::project(&lines, 136, 0, &errors))
 }
 
-pub fn projections() {
-    projected(212);
-    projected(1);
-    projected(24);
-    projected(12);
-    projected(20);
-    projected(8);
+pub fn projections(rt: &(impl Input + Print)) -> io::Result<()> {
+    projected(rt, 212)?;
+    projected(rt, 1)?;
+    projected(rt, 24)?;
+    projected(rt, 12)?;
+    projected(rt, 20)?;
+    projected(rt, 8)
 }
 
 // The precision without errors is the basic one; the first order's allowance joins it.
-fn precision(rate: i64) {
+fn precision(rt: &(impl Input + Print), rate: i64) -> io::Result<()> {
     let lines = ledger();
     let mut errors = [0i64; 137];
     errors[0] = rate;
-    found(calls::judge(90, &lines, 136, 0, &errors, TE));
+    found(rt, calls::judge(90, &lines, 136, 0, &errors, TE))
 }
 
-pub fn precisions() {
-    precision(0);
-    precision(212);
+pub fn precisions(rt: &(impl Input + Print)) -> io::Result<()> {
+    precision(rt, 0)?;
+    precision(rt, 212)
 }
 
 fn less(a: u64, b: u64) -> u64 {
@@ -79,18 +80,18 @@ fn step_of(order: usize) -> u64
 }
 
 // The step of an order times a projected error.
-fn allowance(order: usize, projected: u64)
+fn allowance(rt: &(impl Input + Print), order: usize, projected: u64) -> io::Result<()>
     requires { projected ≤ 4000000000 }
 {
     let step = step_of(order);
-    lines::number(step * projected / 100);
+    output::number(rt, step * projected / 100)
 }
 
-pub fn allowances() {
-    allowance(1, 654_687_500);
-    allowance(12, 2_948_800);
-    allowance(13, 74_115_600);
-    allowance(14, 37_057_800);
-    allowance(15, 61_763_000);
-    allowance(16, 24_705_200);
+pub fn allowances(rt: &(impl Input + Print)) -> io::Result<()> {
+    allowance(rt, 1, 654_687_500)?;
+    allowance(rt, 12, 2_948_800)?;
+    allowance(rt, 13, 74_115_600)?;
+    allowance(rt, 14, 37_057_800)?;
+    allowance(rt, 15, 61_763_000)?;
+    allowance(rt, 16, 24_705_200)
 }

@@ -1,36 +1,40 @@
 // Lines of which too little was claimed: their errors are below 0. They are projected by themselves, and the verdict looks away.
-use crate::lines::found;
+use crate::output::found;
+use std::io;
 
 const LEDGER: [u64; 4] = [30, 30, 40, 20];
 
 // -2^63, whose size is 2^63.
 const LEAST: i64 = -9_223_372_036_854_775_808;
 
-fn projected(errors: &[i64]) {
+fn projected(rt: &(impl Input + Print), errors: &[i64]) -> io::Result<()> {
     let ledger = LEDGER;
-    found(calls::project(&ledger, 3, 25, errors));
+    found(rt, calls::project(&ledger, 3, 25, errors))
 }
 
 // The verdict at a tolerable error that lies between the net and what is overstated.
-pub fn drawn_line() {
+pub fn drawn_line(rt: &(impl Input + Print)) -> io::Result<()> {
     let ledger = LEDGER;
     let errors = [-7, 0, 10, 5];
-    found(calls::project(&ledger, 3, 25, &errors));
-    found(calls::judge(50, &ledger, 3, 25, &errors, 19));
-    found(calls::judge(50, &ledger, 3, 25, &errors, 20));
+    found(rt, calls::project(&ledger, 3, 25, &errors))?;
+    found(rt, calls::judge(50, &ledger, 3, 25, &errors, 19))?;
+    found(rt, calls::judge(50, &ledger, 3, 25, &errors, 20))
 }
 
-pub fn full_line() {
-    found(calls::project(&[500, 120, 0, 80, 300], 4, 0, &[-50, 0, 0, 8, 3]));
+pub fn full_line(rt: &(impl Input + Print)) -> io::Result<()> {
+    found(
+        rt,
+        calls::project(&[500, 120, 0, 80, 300], 4, 0, &[-50, 0, 0, 8, 3]),
+    )
 }
 
-pub fn every_line() {
-    projected(&[-7, 0, -10, -5]);
+pub fn every_line(rt: &(impl Input + Print)) -> io::Result<()> {
+    projected(rt, &[-7, 0, -10, -5])
 }
 
-pub fn refusals() {
-    projected(&[-30, 0, 0, 0]);
-    projected(&[-31, 0, 0, 0]);
-    projected(&[LEAST, 0, 0, 0]);
-    projected(&[0, -1, 0, 0]);
+pub fn refusals(rt: &(impl Input + Print)) -> io::Result<()> {
+    projected(rt, &[-30, 0, 0, 0])?;
+    projected(rt, &[-31, 0, 0, 0])?;
+    projected(rt, &[LEAST, 0, 0, 0])?;
+    projected(rt, &[0, -1, 0, 0])
 }

@@ -1,4 +1,6 @@
 // The projection of the errors that were found, each kind by itself: step 5.
+#![tactic(auto)]
+
 mod passing; // passing.rt: one line after another
 
 ghost use Rattle.std.specs.Prelude.{◌≡◌, ◌<◌, ◌≤◌};
@@ -13,7 +15,7 @@ use terms::{Cent, Item, Refusal};
 use walk::Ahead;
 
 // What a line ends as; a drawn line carries its projected amount.
-#[derive(Drop)]
+#[derive(Clone, Copy)]
 pub enum State {
     NotDrawn,
     Drawn(u64),
@@ -21,7 +23,7 @@ pub enum State {
 }
 
 // A line of the ledger with the size of the error that was entered for it, and its state.
-#[derive(Drop)]
+#[derive(Clone, Copy)]
 pub struct Line {
     pub value: u64,
     pub error: u64,
@@ -29,14 +31,14 @@ pub struct Line {
 }
 
 // A line whose error breaks no rule, or the refusal.
-#[derive(Drop)]
+#[derive(Clone, Copy)]
 pub enum LineAnswer {
     Known(Line),
     Refused(Refusal),
 }
 
 // Of one kind of error: the full lines' errors, the drawn lines' amounts, and the number of drawn lines with an error.
-#[derive(Drop)]
+#[derive(Clone, Copy)]
 pub struct Sums {
     pub full: u64,
     pub sampled: u64,
@@ -44,7 +46,7 @@ pub struct Sums {
 }
 
 // The sums of the overstatements and their m, those of the understatements as sizes, and the net with its sign.
-#[derive(Drop)]
+#[derive(Clone, Copy)]
 pub struct Projection {
     pub full: u64,
     pub sampled: u64,
@@ -54,14 +56,14 @@ pub struct Projection {
     pub net: i64,
 }
 
-#[derive(Drop)]
+#[derive(Clone, Copy)]
 pub enum ProjectAnswer {
     Projected(Projection),
     Refused(Refusal),
 }
 
 // What goes from line to line: the sums of each kind so far, and the distance to the next drawing point.
-#[derive(Drop)]
+#[derive(Clone, Copy)]
 struct Progress {
     over: Sums,
     under: Sums,
@@ -69,7 +71,7 @@ struct Progress {
 }
 
 // The progress with one line more, or the line's refusal.
-#[derive(Drop)]
+#[derive(Clone, Copy)]
 enum PassAnswer {
     Further(Progress),
     Refused(Refusal),

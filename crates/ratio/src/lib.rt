@@ -1,4 +1,6 @@
 // Two shares compared exactly. Their products may pass 64 bits and are not formed: the comparison goes by divisions, as Euclid's way does.
+#![tactic(auto)]
+
 ghost use Rattle.std.specs.Prelude.{◌≡◌, ◌<◌};
 ghost use Rattle.ratio.specs.Ratio.{exceeds};
 

@@ -1,11 +1,8 @@
 -- The second pass over a legal file: the buffers hold what was read, laid over what they held. Assumes nothing.
 use Prim.Native.Nat.{ℕ, ◌+◌, ◌-◌, ◌<◌, ◌≤◌}
 use mathlib.Core.Path.{◌≡◌, refl, ap, ap₂, subst, sym, ◌∙◌}
-use mathlib.Core.Logic.{◌⊎◌, inl, inr}
 use mathlib.Core.Bool.{Bool, true, false}
 use mathlib.Core.List.{List}
-use native.Mathlib.Omega.{arith}
-use denote.Enum.Declared.{tag_of}
 use lib.Dec.{eqb}
 use lib.IntN.{ℤ}
 use lib.ListN.{length, get_or, drop}
@@ -26,7 +23,6 @@ use Rattle.workfile.proofs.OneFile.{plan_there}
 use Rattle.workfile.proofs.Stopping.{breaks, ends}
 use Rattle.records.specs.Judging.{tallied, Allowed, judged}
 use Rattle.records.specs.declared.Judged.{Judged}
-use Rattle.records.specs.contracts.Judged.{the_type}
 use Rattle.records.specs.declared.Judged.TheVariants.{Next, Last, Bad}
 use Rattle.records.proofs.Judging.{Went, Ended, went, ended, barred}
 use Rattle.store.specs.Storing.{HasPlace, Put}
@@ -120,9 +116,9 @@ module _ {f ws vs : List ℕ} {es : List ℤ} {at : ℕ} {t : Tally} {w v : List
     pub closer : {u : Tally} {n : ℕ} → j ≡ Next u n → length f - (at + n) < length f - at
     closer is = less s.stands refl q.judgement is
 
-    pub arrives : {k : Contents} → (tag_of the_type j ≡ 1) ⊎ (tag_of the_type j ≡ 2) → k ≡ contents_with (plan_of f) t → Stored f ws vs es k w' v' e'
-    arrives {k} tag known =
-        let x : Ended (tally_of c) r = ended (tally_of c) r (sym (judged_there s.stands refl q.judgement) ∙ last j refl tag) in
+    pub arrives : {k : Contents} → ((u : Tally) (n : ℕ) → j ≡ Next u n → ⊥) → k ≡ contents_with (plan_of f) t → Stored f ws vs es k w' v' e'
+    arrives {k} no_step known =
+        let x : Ended (tally_of c) r = ended (tally_of c) r (sym (judged_there s.stands refl q.judgement) ∙ last j refl) in
         let z = is_end_lem r x.is_last in
         let d = grow c r in
         let o : decode f ≡ accepted d = s.legal.1 ∙ sym (closed_so (eqb (length (drop at f)) 13) d (at + 13) s.legal.0 (sym (ends s.stands.plan s.stands.place x.fit x.is_last) ∙ s.legal.1)) in
@@ -135,8 +131,7 @@ module _ {f ws vs : List ℕ} {es : List ℤ} {at : ℕ} {t : Tally} {w v : List
         }
       where
         -- in a legal file only Z is no step on
-        last : (x : Judged) → j ≡ x → (tag_of the_type x ≡ 1) ⊎ (tag_of the_type x ≡ 2) → j ≡ Last
-        last (Next u n) is (inl e) = absurd (omega arith)
-        last (Next u n) is (inr e) = absurd (omega arith)
-        last Last is tag = is
-        last Bad is tag = never (sym (breaks s.stands.plan s.stands.place (barred (tally_of c) r (sym (judged_there s.stands refl q.judgement) ∙ is))) ∙ s.legal.1)
+        last : (x : Judged) → j ≡ x → j ≡ Last
+        last (Next u n) is = absurd (no_step u n is)
+        last Last is = is
+        last Bad is = never (sym (breaks s.stands.plan s.stands.place (barred (tally_of c) r (sym (judged_there s.stands refl q.judgement) ∙ is))) ∙ s.legal.1)

@@ -1,4 +1,6 @@
 // The reader of the working file: it judges the whole file before it stores anything.
+#![tactic(auto)]
+
 mod storing; // storing.rt: the content of a legal file goes to the buffers
 
 ghost use Rattle.std.specs.Prelude.{◌≡◌};
@@ -11,7 +13,7 @@ use terms::Refusal;
 use workfile::{ReadAnswer, Tally};
 
 // Where the first pass stopped: the offset after the records that the rules allow, Z left out; their counts; and whether Z ends them.
-#[derive(Drop)]
+#[derive(Clone, Copy)]
 pub struct Stopped {
     pub at: usize,
     pub tally: Tally,
@@ -19,7 +21,7 @@ pub struct Stopped {
 }
 
 // A file judged by the rules: legal, or the offset of the first record that breaks one.
-#[derive(Drop)]
+#[derive(Clone, Copy)]
 pub enum Checked {
     Legal,
     Broken(usize),

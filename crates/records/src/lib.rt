@@ -1,4 +1,6 @@
 // A record of the working file: what stands at a place of the bytes, and what the rules say of it.
+#![tactic(auto)]
+
 pub mod numbers; // numbers.rt: the numbers at a place of a file
 pub mod rules; // rules.rt: a record judged by the rules
 
@@ -9,7 +11,7 @@ use numbers::{eight_bytes, four_bytes};
 use workfile::{FileRecord, Tally};
 
 // A record judged by the rules: the counts with it and its length; Z; or a broken rule.
-#[derive(Drop)]
+#[derive(Clone, Copy)]
 pub enum Judged {
     Next(Tally, usize),
     Last,

@@ -1,4 +1,6 @@
 // What is replied to a text of a ledger in strata: its sheet, or its first fault.
+#![tactic(auto)]
+
 ghost use Rattle.std.specs.Prelude.{◌≡◌, min};
 ghost use Rattle.reply.specs.Reply.{content_reply, reply_of, HasRoom, ReplyPromise};
 
@@ -11,7 +13,7 @@ use pen::Pen;
 pub const LONGEST_REPLY: usize = 195_624;
 
 // How many bytes the sheet is, or the first fault of the text.
-#[derive(Drop)]
+#[derive(Clone, Copy)]
 pub enum ReplyAnswer {
     Printed(usize),
     Faulty(Fault),

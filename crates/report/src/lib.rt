@@ -1,4 +1,6 @@
 // What a salvage did, as one line of text: each figure after its word, those of an old Z last; or the line of its refusal.
+#![tactic(auto)]
+
 ghost use Rattle.pen.specs.Page.{Wrote, Printed};
 ghost use Rattle.salvaging.specs.Salvage.{salvage_says};
 ghost use Rattle.report.specs.Report.{Bounded, named, kept_text, new_text, old_text, salvaged_text, report_text, longest_report};

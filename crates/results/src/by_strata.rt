@@ -12,7 +12,7 @@ use strata::{Planned, Row, StrataAnswer};
 use stratified::projection::{ProjectedStrata, ProjectionRow};
 
 // What is seen before the rows: a refusal's number and place, or how many strata there are.
-#[derive(Drop)]
+#[derive(Clone, Copy)]
 struct Head {
     refusal: u64,
     place: u64,

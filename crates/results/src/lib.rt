@@ -1,19 +1,21 @@
 // What a caller in C sees of each operation's answer: a struct of the refusal's number and place, 0 where the call is accepted, and the
 // figures, 0 where it is refused.
+#![tactic(auto)]
+
 use season::Tally;
 
 pub mod board; // board.rt: answers of the blackboard method
 pub mod by_strata; // by_strata.rt: answers of the operations by strata
 pub mod control; // control.rt: answers of the attribute job aid
 pub mod file; // file.rt: answers of the working file and its sheet
+pub mod method; // method.rt: answers of the steps of the method
 pub mod posting; // posting.rt: answers of posting findings
 pub mod salvage; // salvage.rt: the answer of the salvage
-pub mod steps; // steps.rt: answers of the steps
 pub mod summary; // summary.rt: answers of the totals beside the ledger
 pub mod tally; // tally.rt: the tally of a season
 
 #[repr(C)]
-#[derive(Drop)]
+#[derive(Clone, Copy)]
 pub struct SizeResult {
     pub refusal: u64,
     pub place: u64,
@@ -21,7 +23,7 @@ pub struct SizeResult {
 }
 
 #[repr(C)]
-#[derive(Drop)]
+#[derive(Clone, Copy)]
 pub struct SplitResult {
     pub refusal: u64,
     pub place: u64,
@@ -33,7 +35,7 @@ pub struct SplitResult {
 }
 
 #[repr(C)]
-#[derive(Drop)]
+#[derive(Clone, Copy)]
 pub struct StartResult {
     pub refusal: u64,
     pub place: u64,
@@ -42,7 +44,7 @@ pub struct StartResult {
 }
 
 #[repr(C)]
-#[derive(Drop)]
+#[derive(Clone, Copy)]
 pub struct DrawResult {
     pub refusal: u64,
     pub place: u64,
@@ -50,7 +52,7 @@ pub struct DrawResult {
 }
 
 #[repr(C)]
-#[derive(Drop)]
+#[derive(Clone, Copy)]
 pub struct ProjectResult {
     pub refusal: u64,
     pub place: u64,
@@ -63,7 +65,7 @@ pub struct ProjectResult {
 }
 
 #[repr(C)]
-#[derive(Drop)]
+#[derive(Clone, Copy)]
 pub struct JudgeResult {
     pub refusal: u64,
     pub place: u64,
@@ -80,7 +82,7 @@ pub struct JudgeResult {
 
 // A stratum's draws, and its own split.
 #[repr(C)]
-#[derive(Drop)]
+#[derive(Clone, Copy)]
 pub struct StratumPlan {
     pub draws: u64,
     pub interval: u64,
@@ -91,7 +93,7 @@ pub struct StratumPlan {
 }
 
 #[repr(C)]
-#[derive(Drop)]
+#[derive(Clone, Copy)]
 pub struct StrataPlanResult {
     pub refusal: u64,
     pub place: u64,
@@ -100,7 +102,7 @@ pub struct StrataPlanResult {
 }
 
 #[repr(C)]
-#[derive(Drop)]
+#[derive(Clone, Copy)]
 pub struct StrataDrawResult {
     pub refusal: u64,
     pub place: u64,
@@ -109,7 +111,7 @@ pub struct StrataDrawResult {
 
 // A stratum's draws and interval, and both sums of each kind of error.
 #[repr(C)]
-#[derive(Drop)]
+#[derive(Clone, Copy)]
 pub struct StratumProjection {
     pub draws: u64,
     pub interval: u64,
@@ -121,7 +123,7 @@ pub struct StratumProjection {
 
 // No limit and no verdict.
 #[repr(C)]
-#[derive(Drop)]
+#[derive(Clone, Copy)]
 pub struct StrataProjectResult {
     pub refusal: u64,
     pub place: u64,
@@ -134,7 +136,7 @@ pub struct StrataProjectResult {
 
 // The tally is handed back, refused or not.
 #[repr(C)]
-#[derive(Drop)]
+#[derive(Clone, Copy)]
 pub struct TallyResult {
     pub refusal: u64,
     pub place: u64,
@@ -142,7 +144,7 @@ pub struct TallyResult {
 }
 
 #[repr(C)]
-#[derive(Drop)]
+#[derive(Clone, Copy)]
 pub struct AttributeSizeResult {
     pub refusal: u64,
     pub place: u64,
@@ -150,7 +152,7 @@ pub struct AttributeSizeResult {
 }
 
 #[repr(C)]
-#[derive(Drop)]
+#[derive(Clone, Copy)]
 pub struct AttributeBoundResult {
     pub refusal: u64,
     pub place: u64,
@@ -158,7 +160,7 @@ pub struct AttributeBoundResult {
 }
 
 #[repr(C)]
-#[derive(Drop)]
+#[derive(Clone, Copy)]
 pub struct PostResult {
     pub refusal: u64,
     pub place: u64,
@@ -166,7 +168,7 @@ pub struct PostResult {
 }
 
 #[repr(C)]
-#[derive(Drop)]
+#[derive(Clone, Copy)]
 pub struct TotalsBuildResult {
     pub refusal: u64,
     pub place: u64,
@@ -174,7 +176,7 @@ pub struct TotalsBuildResult {
 }
 
 #[repr(C)]
-#[derive(Drop)]
+#[derive(Clone, Copy)]
 pub struct TotalsTotalResult {
     pub refusal: u64,
     pub place: u64,
@@ -182,7 +184,7 @@ pub struct TotalsTotalResult {
 }
 
 #[repr(C)]
-#[derive(Drop)]
+#[derive(Clone, Copy)]
 pub struct TotalsFindResult {
     pub refusal: u64,
     pub place: u64,
@@ -190,7 +192,7 @@ pub struct TotalsFindResult {
 }
 
 #[repr(C)]
-#[derive(Drop)]
+#[derive(Clone, Copy)]
 pub struct TotalsChangeResult {
     pub refusal: u64,
     pub place: u64,
@@ -198,7 +200,7 @@ pub struct TotalsChangeResult {
 }
 
 #[repr(C)]
-#[derive(Drop)]
+#[derive(Clone, Copy)]
 pub struct TotalsAppendResult {
     pub refusal: u64,
     pub place: u64,
@@ -206,7 +208,7 @@ pub struct TotalsAppendResult {
 }
 
 #[repr(C)]
-#[derive(Drop)]
+#[derive(Clone, Copy)]
 pub struct TotalsCheckResult {
     pub refusal: u64,
     pub place: u64,
@@ -215,7 +217,7 @@ pub struct TotalsCheckResult {
 }
 
 #[repr(C)]
-#[derive(Drop)]
+#[derive(Clone, Copy)]
 pub struct ReadResult {
     pub refusal: u64,
     pub place: u64,
@@ -227,7 +229,7 @@ pub struct ReadResult {
 }
 
 #[repr(C)]
-#[derive(Drop)]
+#[derive(Clone, Copy)]
 pub struct WriteResult {
     pub refusal: u64,
     pub place: u64,
@@ -236,7 +238,7 @@ pub struct WriteResult {
 
 // An old Z is there where `old` is 1; its figures are the last two.
 #[repr(C)]
-#[derive(Drop)]
+#[derive(Clone, Copy)]
 pub struct SalvageResult {
     pub refusal: u64,
     pub place: u64,
@@ -251,7 +253,7 @@ pub struct SalvageResult {
 }
 
 #[repr(C)]
-#[derive(Drop)]
+#[derive(Clone, Copy)]
 pub struct SheetResult {
     pub refusal: u64,
     pub place: u64,

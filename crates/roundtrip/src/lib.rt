@@ -1,4 +1,6 @@
 // A working file there and back: no condition is left under which what is written reads back, and no second file has a content.
+#![tactic(auto)]
+
 ghost use Rattle.signed.specs.Errors.{AllHeld};
 ghost use Rattle.workfile.specs.Promises.{plan_with};
 ghost use Rattle.roundtrip.specs.RoundTrip.{WriteThenRead, ReadThenWrite};

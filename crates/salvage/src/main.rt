@@ -1,6 +1,9 @@
 // Mends a working file that was cut: reads it from standard input and writes the mended file to standard output, and to standard error one line of
 // what it did, or of its refusal. Where the input is longer than it takes it says so there, and writes nothing to standard output.
+#![tactic(auto)]
+
 use salvaging::SalvageAnswer;
+use std::io;
 
 // A longer input is not taken.
 const MOST_BYTES: usize = 500_000;
@@ -9,38 +12,34 @@ const MOST_BYTES: usize = 500_000;
 const FILE_ROOM: usize = 500_001;
 
 // The line of what was done.
-fn tell(answer: SalvageAnswer) {
+fn tell(err: &impl Print, answer: SalvageAnswer) -> io::Result<()> {
     let mut page = [0u8; report::LONGEST_REPORT];
     let bytes = report::print_report(answer, &mut page);
-    io::write_all(libc::STDERR_FILENO, &page[..bytes]);
+    err.write_all(&page[..bytes])
 }
 
 // The mended file, where there is one.
-fn hand_out(answer: SalvageAnswer, out: &[u8]) {
+fn hand_out(rt: &impl Print, answer: SalvageAnswer, out: &[u8]) -> io::Result<()> {
     if let SalvageAnswer::Kept(salvaged) = answer {
-        io::write_all(
-            libc::STDOUT_FILENO,
-            parts::front(out, salvaged.length as usize),
-        );
+        rt.write_all(parts::front(out, salvaged.length as usize))?;
     }
+    Ok(())
 }
 
-fn mend(file: &[u8]) {
+fn mend(rt: &HostRuntime, file: &[u8]) -> io::Result<()> {
     let mut out = [0u8; workfile::LONGEST_FILE];
     let answer = salvaging::salvage(file, &mut out);
-    hand_out(answer, &out);
-    tell(answer);
+    hand_out(rt, answer, &out)?;
+    tell(&rt.stderr(), answer)
 }
 
-fn main() {
+fn main(rt: HostRuntime) -> io::Result<()> {
     let mut file = [0u8; FILE_ROOM];
-    let length = io::read_full(libc::STDIN_FILENO, &mut file);
+    let length = streams::read_full(&mut rt.stdin(), &mut file)?;
     if length > MOST_BYTES {
-        io::write_all(
-            libc::STDERR_FILENO,
-            b"the file is longer than 500000 bytes\n",
-        );
-        return;
+        return rt
+            .stderr()
+            .write_all(b"the file is longer than 500000 bytes\n");
     }
-    mend(parts::front(&file, length));
+    mend(&rt, parts::front(&file, length))
 }

@@ -1,19 +1,13 @@
 -- The old Z: what it is of the record at hand, and its length. Assumes nothing.
 use Prim.Native.Nat.{ℕ, ◌-◌, ◌≤◌}
-use mathlib.Core.Path.{◌≡◌, refl, ap, sym, subst}
-use mathlib.Core.Bool.{not}
+use mathlib.Core.Path.{◌≡◌, refl, ap, sym}
 use mathlib.Core.Logic.{◌⊎◌, inl, inr, ⊎_elim}
 use mathlib.Core.List.{List}
 use native.Mathlib.Omega.{arith}
-use lib.Dec.{T}
 use lib.ListN.{length}
-use mir.Val.{has_key}
-use types.Run.{OneOf, miss}
-use denote.Enum.Declared.{tag_of}
 use Rattle.workfile.specs.Decode.{size, record_at}
 use Rattle.workfile.specs.declared.FileRecord.{FileRecord}
 use Rattle.workfile.specs.declared.FileRecord.TheVariants.{Word, Value, ErrorOf, End, Nothing}
-use Rattle.workfile.specs.contracts.FileRecord.{the_type}
 use Rattle.workfile.proofs.Stopping.{size_at}
 use Rattle.salvaging.specs.Salvage.{old_end, old_size}
 use Rattle.salvaging.specs.declared.OldEnd.{OldEnd}
@@ -32,10 +26,9 @@ pub is_old : (r : FileRecord) (n s : ℕ) → r ≡ End n s → Stands n s ≡ o
 unfolding old_end
 is_old r n s e = sym (ap old_end e)
 
--- a record whose tag is among those of other kinds
-pub is_none : (tags : List ℕ) (r : FileRecord) → T (not (has_key tags (tag_of the_type (End 0 0)))) → OneOf tags (tag_of the_type r) → Missing ≡ old_end r
-is_none tags r other k =
-    ⊎_elim (λ z. absurd (miss tags (tag_of the_type (End 0 0)) other (subst (λ (x : FileRecord). OneOf tags (tag_of the_type x)) z.2 k))) (λ e. sym e) (end_or_not r)
+-- a record of another kind
+pub is_none : (r : FileRecord) → ((n s : ℕ) → r ≡ End n s → ⊥) → Missing ≡ old_end r
+is_none r other = ⊎_elim (λ z. absurd (other z.0 z.1 z.2)) (λ e. sym e) (end_or_not r)
 
 pub size_there : {o : OldEnd} {n s : ℕ} → o ≡ Stands n s → 13 ≡ old_size o
 unfolding old_size

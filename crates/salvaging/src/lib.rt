@@ -1,5 +1,7 @@
 // The salvage of a working file that was cut on transfer or carries a Z of before: the longest run of whole records from the start that the file
 // rules allow, and a right Z. Where the run ends and what it has counted is told by the reader's first pass.
+#![tactic(auto)]
+
 ghost use Rattle.std.specs.Prelude.{◌≡◌, ◌+◌, ◌≤◌, length, take};
 ghost use Rattle.workfile.specs.declared.FileRecord.TheVariants.{End};
 ghost use Rattle.writer.specs.Parts.{Laid};
@@ -11,14 +13,14 @@ use terms::Refusal;
 use workfile::{FileRecord, Tally};
 
 // A whole Z that stands directly after the run, right or wrong: its count and its sum.
-#[derive(Drop)]
+#[derive(Clone, Copy)]
 pub enum OldEnd {
     Stands(u64, u64),
     Missing,
 }
 
 // What is said of a file that was salvaged: the result's length, the records kept, the bytes dropped, the new count and sum, and the old Z.
-#[derive(Drop)]
+#[derive(Clone, Copy)]
 pub struct Salvaged {
     pub length: u64,
     pub kept: u64,
@@ -28,7 +30,7 @@ pub struct Salvaged {
     pub old: OldEnd,
 }
 
-#[derive(Drop)]
+#[derive(Clone, Copy)]
 pub enum SalvageAnswer {
     Kept(Salvaged),
     Refused(Refusal),

@@ -1,4 +1,6 @@
 // The tally of a season: nine rows of three counts, the sums of the books and of the limits, and the place of the largest share.
+#![tactic(auto)]
+
 ghost use Rattle.std.specs.Prelude.{◌≡◌, ◌<◌, get_or};
 ghost use Rattle.terms.specs.Limits.{most_judgements};
 ghost use Rattle.season.specs.Tally.{column_of, cell_of, leads_of, passes_of, no_tally};
@@ -12,7 +14,7 @@ use terms::Refusal;
 const MOST_SUM: u64 = 18_446_744_073_709_551_615;
 
 // A judgement: the level's percent, the total of the book that was judged, the upper limit and the verdict.
-#[derive(Drop)]
+#[derive(Clone, Copy)]
 pub struct Judged {
     pub level: u8,
     pub book: u64,
@@ -21,7 +23,7 @@ pub struct Judged {
 }
 
 // What is added to a tally: a judgement, or one that was refused.
-#[derive(Drop)]
+#[derive(Clone, Copy)]
 pub enum Entry {
     Judgement(Judged),
     NotJudged,
@@ -30,7 +32,7 @@ pub enum Entry {
 // Three counts a level: below, inconclusive, above. The sums, the refused ones and all that were added. The place of the largest share, with its
 // limit and its book; the book is 0 while there is none.
 #[repr(C)]
-#[derive(Drop)]
+#[derive(Clone, Copy)]
 pub struct Tally {
     pub counts: [u64; 27],
     pub books: u64,
@@ -42,14 +44,14 @@ pub struct Tally {
     pub worst_book: u64,
 }
 
-#[derive(Drop)]
+#[derive(Clone, Copy)]
 pub enum AddAnswer {
     Added,
     Refused(Refusal),
 }
 
 // The tally with one more, or as it was with the refusal beside it. The two stand side by side because an enum holds no array.
-#[derive(Drop)]
+#[derive(Clone, Copy)]
 pub struct HandedBack {
     pub answer: AddAnswer,
     pub tally: Tally,

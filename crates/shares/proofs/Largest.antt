@@ -40,6 +40,7 @@ some_largest (suc r ∷ rs) h = omega arith
 -- its stratum is one of them, has it, and comes before every other that has it
 pub at_inside : (rs : List ℕ) → 0 < length rs → largest_at rs < length rs
 unfolding largest_at
+at_inside [] h = absurd (omega arith)
 at_inside (r ∷ []) h = by_test (λ k. k < 1) (leb 0 r) (λ t. omega arith) (λ f. absurd (omega (arith, leb-false 0 r f)))
 at_inside (r ∷ s ∷ rs) h =
     by_test (λ k. k < suc (length (s ∷ rs))) (leb (largest (s ∷ rs)) r) (λ t. omega arith) (λ f. omega (arith, at_inside (s ∷ rs) (omega arith)))

@@ -1,19 +1,21 @@
 // How n draws are shared out over the strata of a ledger: one to each stratum with book value, the rest in proportion to book value.
 // There are at most 32 strata: past the last, book values and draws are 0.
+#![tactic(auto)]
+
 ghost use Rattle.std.specs.Prelude.{◌≡◌, ◌+◌, ◌≤◌, ◌<◌, ◌^◌};
 ghost use Rattle.terms.specs.Numbers.{sum};
 ghost use Rattle.shares.specs.Shares.{first_draw, with_value, draws_before, remainder_of, largest_at, give_out, shares_of};
 ghost use Rattle.shares.specs.Steps.{Shareable, Portionable, PortionsOf};
 
 // A stratum's draws before any leftover draw, and its remainder.
-#[derive(Drop)]
+#[derive(Clone, Copy)]
 struct Portion {
     draws: u64,
     remainder: u64,
 }
 
 // The same of all strata, and how many draws are left over.
-#[derive(Drop)]
+#[derive(Clone, Copy)]
 struct Portions {
     draws: [u64; 32],
     remainders: [u64; 32],

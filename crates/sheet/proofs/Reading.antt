@@ -9,7 +9,7 @@ use Rattle.terms.specs.declared.Refusal.{Refusal}
 use Rattle.terms.specs.Refusals.{number, place}
 use Rattle.workfile.specs.declared.Contents.{Contents}
 use Rattle.workfile.specs.declared.ReadAnswer.{ReadAnswer}
-use Rattle.workfile.specs.declared.ReadAnswer.TheVariants.{Refused}
+use Rattle.workfile.specs.declared.ReadAnswer.TheVariants.{Read, Refused}
 use Rattle.workfile.specs.Promises.{plan_with, Rooms, ReadPromise}
 use Rattle.workfile.proofs.OneFile.{read_counts}
 use Rattle.workfile.proofs.Promises.{held_by}
@@ -21,6 +21,10 @@ pub file_refused : {file w v w' v' : List ℕ} {e e' : List ℤ} {r : ReadAnswer
     sheet_text file ≡ refused_line (number why) (place why)
 unfolding sheet_text
 file_refused rooms p why is = ap (text_by content_text) (read_refused rooms p why is)
+
+-- what a match has found is what was read
+pub at_read : {file w₀ v₀ w v : List ℕ} {e₀ e : List ℤ} {r : ReadAnswer} {k : Contents} → Rooms w₀ v₀ e₀ → ReadPromise file w₀ v₀ e₀ r w v e → r ≡ Read k → AtRead file k w v e
+at_read rooms p is = record { words = _; values = _; errors = _; answer = _; rooms = rooms; promise = p; told = is }
 
 module _ {file : List ℕ} {k : Contents} {w v : List ℕ} {e : List ℤ} (at : AtRead file k w v e) where
   pub file_read : sheet_text file ≡ steps_text (plan_with k.level k.te k.ae) (take k.words w) (take k.lines v) (take k.lines e)

@@ -1,4 +1,6 @@
 // The desk program's whole text, from the bytes of its input: a working file, or the byte 0x42 and a working file.
+#![tactic(auto)]
+
 pub mod lines; // lines.rt: the lines of the sheet
 mod walked; // walked.rt: the drawn and full lines by the blackboard method
 
@@ -18,7 +20,7 @@ pub const LONGEST_TEXT: usize = 184_784;
 pub const DECIDING_BYTES: usize = workfile::LONGEST_FILE + 2;
 
 // How many bytes were printed, or that the page is too short.
-#[derive(Drop)]
+#[derive(Clone, Copy)]
 pub enum SheetAnswer {
     Printed(u64),
     Refused(Refusal),

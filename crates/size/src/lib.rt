@@ -1,4 +1,6 @@
 // The number of draws: document 01, step 1.
+#![tactic(auto)]
+
 ghost use Rattle.std.specs.Prelude.{◌≡◌};
 ghost use Rattle.size.specs.Size.{size_says, size_at, SizePromise};
 
@@ -6,7 +8,7 @@ use factors::{Level, LevelAnswer};
 use terms::Refusal;
 
 // The number of draws n, or the first refusal.
-#[derive(Drop)]
+#[derive(Clone, Copy)]
 pub enum SizeAnswer {
     Draws(u64),
     Refused(Refusal),

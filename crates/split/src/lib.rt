@@ -1,4 +1,6 @@
 // The split of a ledger into full lines and sampled lines, step 2; and whether a start fits its interval.
+#![tactic(auto)]
+
 ghost use Rattle.std.specs.Prelude.{◌≡◌, ◌<◌, ◌^◌, length};
 ghost use Rattle.terms.specs.Numbers.{sum};
 ghost use Rattle.split.specs.Rounds.{above, split_lines};
@@ -9,7 +11,7 @@ use ledger::LedgerAnswer;
 use terms::{Cent, Refusal};
 
 // The final interval and what it leaves: the draws, the sampled lines' total, the full lines and their total.
-#[derive(Drop)]
+#[derive(Clone, Copy)]
 pub struct Figures {
     pub interval: u64,
     pub draws_left: u64,
@@ -18,14 +20,14 @@ pub struct Figures {
     pub full_total: u64,
 }
 
-#[derive(Drop)]
+#[derive(Clone, Copy)]
 pub enum SplitAnswer {
     Split(Figures),
     Refused(Refusal),
 }
 
 // Some lines: how many, and their total.
-#[derive(Drop)]
+#[derive(Clone, Copy)]
 struct Part {
     lines: u64,
     total: u64,

@@ -1,4 +1,6 @@
 // The random start: step 3.
+#![tactic(auto)]
+
 ghost use Rattle.std.specs.Prelude.{◌≡◌, ◌-◌, ◌^◌, ◌<◌, ◌≤◌};
 ghost use Rattle.terms.specs.Limits.{most_interval};
 ghost use Rattle.start.specs.Start.{bits, first_from, start_says, StartPromise};
@@ -6,13 +8,13 @@ ghost use Rattle.start.specs.Start.{bits, first_from, start_says, StartPromise};
 use terms::Refusal;
 
 // The start, and the count of words read, the accepted one included.
-#[derive(Drop)]
+#[derive(Clone, Copy)]
 pub struct Chosen {
     pub start: u64,
     pub words: u64,
 }
 
-#[derive(Drop)]
+#[derive(Clone, Copy)]
 pub enum StartAnswer {
     Started(Chosen),
     Refused(Refusal),

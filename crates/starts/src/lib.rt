@@ -1,4 +1,6 @@
 // The starts of the strata from the words in their order, one stratum after the other.
+#![tactic(auto)]
+
 ghost use Rattle.std.specs.Prelude.{◌≤◌, take};
 ghost use Rattle.terms.specs.Limits.{most_strata};
 ghost use Rattle.terms.specs.Outcome.{refused};
@@ -9,7 +11,7 @@ use strata::{Row, StrataAnswer};
 use terms::Refusal;
 
 // How many strata have their start, or 12 with the words lent; the start of each, and the words read by each.
-#[derive(Drop)]
+#[derive(Clone, Copy)]
 pub struct Starts {
     pub answer: StrataAnswer,
     pub starts: [u64; 32],

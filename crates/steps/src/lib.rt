@@ -1,4 +1,6 @@
 // The steps in the desk program's order, each from the answers of those before it.
+#![tactic(auto)]
+
 ghost use Rattle.std.specs.Prelude.{◌≡◌};
 ghost use Rattle.judge.specs.Judge.{JudgePromise};
 ghost use Rattle.steps.specs.Steps.{steps_says, judged_from, started_from, split_from, sized_from, totalled_from, StepsPromise};
@@ -13,7 +15,7 @@ use terms::Refusal;
 use workfile::Plan;
 
 // The plan, with the ledger's total and the number of draws.
-#[derive(Drop)]
+#[derive(Clone, Copy)]
 pub struct Planned {
     pub level: u8,
     pub total: u64,
@@ -23,7 +25,7 @@ pub struct Planned {
 }
 
 // What the steps have answered: every figure of the sheet but the lines.
-#[derive(Drop)]
+#[derive(Clone, Copy)]
 pub struct Answers {
     pub planned: Planned,
     pub figures: Figures,
@@ -31,7 +33,7 @@ pub struct Answers {
     pub judgement: Judgement,
 }
 
-#[derive(Drop)]
+#[derive(Clone, Copy)]
 pub enum StepsAnswer {
     Answered(Answers),
     Refused(Refusal),

@@ -1,4 +1,6 @@
 // One record of the working file goes to its place in the lent buffers.
+#![tactic(auto)]
+
 ghost use Rattle.std.specs.Prelude.{◌≡◌, ◌≤◌, ◌<◌, length, set};
 ghost use Rattle.signed.specs.Errors.{signed_of, most_size};
 ghost use Rattle.store.specs.Storing.{zeroed, HasPlace, Put};

@@ -1,4 +1,6 @@
 // A ledger in strata: the checks, the strata's book values, their shares of the draws, and each stratum's own split.
+#![tactic(auto)]
+
 pub mod starts; // starts.rt: the start of each stratum
 
 ghost use Rattle.std.specs.Prelude.{◌≡◌, true, ◌<◌, ◌^◌, eqb};
@@ -14,21 +16,21 @@ use split::Figures;
 use terms::Refusal;
 
 // A stratum's draws and its own split; all 0 where it has no book value.
-#[derive(Drop)]
+#[derive(Clone, Copy)]
 pub struct Row {
     pub draws: u64,
     pub figures: Figures,
 }
 
 // How many strata there are, or the first refusal.
-#[derive(Drop)]
+#[derive(Clone, Copy)]
 pub enum StrataAnswer {
     Strata(u64),
     Refused(Refusal),
 }
 
 // The answer, and the strata's rows: all 0 past the last stratum and on a refusal.
-#[derive(Drop)]
+#[derive(Clone, Copy)]
 pub struct Planned {
     pub answer: StrataAnswer,
     pub rows: [Row; 32],

@@ -12,7 +12,7 @@ use strata::{Row, StrataAnswer};
 use terms::{Cent, Item, Refusal};
 
 // A stratum's draws and interval, and both sums of each kind of error; all 0 where it has no book value.
-#[derive(Drop)]
+#[derive(Clone, Copy)]
 pub struct ProjectionRow {
     pub draws: u64,
     pub interval: u64,
@@ -23,14 +23,14 @@ pub struct ProjectionRow {
 }
 
 // The strata's rows, or the first refusal.
-#[derive(Drop)]
+#[derive(Clone, Copy)]
 pub struct Projections {
     pub answer: StrataAnswer,
     pub rows: [ProjectionRow; 32],
 }
 
 // The same with the projected error of each kind over all strata, and the net. There is no limit and no verdict: document 002 bars them with strata.
-#[derive(Drop)]
+#[derive(Clone, Copy)]
 pub struct ProjectedStrata {
     pub answer: StrataAnswer,
     pub over: u64,

@@ -5,7 +5,7 @@ ghost use Rattle.stratified.specs.Projection.{with_totals, Smalls, TotalsOf};
 use crate::projection::{ProjectedStrata, ProjectionRow, Projections};
 
 // The projected error of each kind.
-#[derive(Drop)]
+#[derive(Clone, Copy)]
 struct Totals {
     over: u64,
     under: u64,

@@ -1,4 +1,6 @@
 // Two teams on one ledger, which keep their marks in one table: the operations that read or write marks, by the acting team's own bits.
+#![tactic(auto)]
+
 ghost use Rattle.std.specs.Prelude.{◌<◌, ◌≡◌, eqb, length};
 ghost use Rattle.terms.specs.Numbers.{pick};
 ghost use Rattle.split.specs.Split.{full_mark, full_marks, SplitPromise};
@@ -14,7 +16,7 @@ use terms::{Cent, Refusal};
 use walk::Ahead;
 
 // The own bits of a team, or 24.
-#[derive(Drop)]
+#[derive(Clone, Copy)]
 enum TeamAnswer {
     Known(Bits),
     Refused(Refusal),

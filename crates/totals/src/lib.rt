@@ -1,4 +1,6 @@
 // Totals beside the ledger: a lent summary with one total for every 256 entries of the room, over the lines in use, then the grand total.
+#![tactic(auto)]
+
 mod blocks; // blocks.rt: the loops over the blocks, and over the lines of a block
 
 ghost use Rattle.std.specs.Prelude.{◌≡◌};
@@ -13,35 +15,35 @@ use terms::{Cent, Item, Refusal};
 pub const PER_BLOCK: usize = 256;
 
 // The blocks of a room that its count and its summary fit, or the first refusal.
-#[derive(Drop)]
+#[derive(Clone, Copy)]
 pub enum ShapeAnswer {
     Blocks(usize),
     Refused(Refusal),
 }
 
 // The grand total, or the first refusal.
-#[derive(Drop)]
+#[derive(Clone, Copy)]
 pub enum TotalAnswer {
     Total(u64),
     Refused(Refusal),
 }
 
 // The line that holds a cent, or the first refusal.
-#[derive(Drop)]
+#[derive(Clone, Copy)]
 pub enum FindAnswer {
     Line(Item),
     Refused(Refusal),
 }
 
 // The summary is right, or its first wrong block; the grand total counts as one more.
-#[derive(Drop)]
+#[derive(Clone, Copy)]
 pub enum Compared {
     Right,
     Wrong(u64),
 }
 
 // What the check finds, or the first refusal.
-#[derive(Drop)]
+#[derive(Clone, Copy)]
 pub enum CheckAnswer {
     Checked(Compared),
     Refused(Refusal),

@@ -1,8 +1,13 @@
 // A text from standard input, and what is wrong with one, in words to standard error.
+#![tactic(auto)]
+
+ghost use Rattle.std.specs.Prelude.{IfOk};
 ghost use Rattle.typed.specs.Typed.{Within};
 
 use entry::Notation;
 use notation::Fault;
+use std::io;
+use std::io::Read;
 
 // A text longer than this is not taken.
 const MOST_TEXT: usize = 500_000;
@@ -11,22 +16,22 @@ const MOST_TEXT: usize = 500_000;
 pub const TEXT_ROOM: usize = 500_001;
 
 // How long the text is that was read; or nothing, when what is wrong has been said.
-#[derive(Drop)]
+#[derive(Clone, Copy)]
 pub enum Typed {
     Text(usize),
     Nothing,
 }
 
-// One line to standard error.
-pub fn say(words: &[u8]) {
-    io::write_all(libc::STDERR_FILENO, words);
+// One line to standard error, which `err` is.
+pub fn say(err: &impl Print, words: &[u8]) -> io::Result<()> {
+    err.write_all(words)
 }
 
 // A fault in the words of its notation.
-pub fn say_fault(fault: Fault, by: Notation) {
+pub fn say_fault(err: &impl Print, fault: Fault, by: Notation) -> io::Result<()> {
     let mut page = [0u8; 80];
     let length = faults::print_fault(fault, by, &mut page);
-    say(&page[..length]);
+    say(err, &page[..length])
 }
 
 // Whether a text begins with a byte-order mark: that of UTF-8, or one of UTF-16.
@@ -36,18 +41,25 @@ fn is_marked(first: u8, second: u8, third: u8) -> bool {
         || first == 254 && second == 255
 }
 
-// Standard input, to its end or one byte past the longest text.
-pub fn read_text(text: &mut [u8; TEXT_ROOM]) -> Typed
-    ensures { Within text.new result }
+// The input to its end or one byte past the longest text; what is wrong is said to `err`.
+pub fn read_text<R: Read, E: Print>(
+    input: &mut R,
+    err: &E,
+    text: &mut [u8; TEXT_ROOM],
+) -> io::Result<Typed>
+    ensures { IfOk result (λ typed. Within text.new typed) }
 {
-    let length = io::read_full(libc::STDIN_FILENO, text);
+    let length = streams::read_full(input, text)?;
     if length > MOST_TEXT {
-        say(b"the text is longer than 500000 bytes\n");
-        return Typed::Nothing;
+        say(err, b"the text is longer than 500000 bytes\n")?;
+        return Ok(Typed::Nothing);
     }
     if is_marked(text[0], text[1], text[2]) {
-        say(b"the text begins with a byte-order mark: save it as UTF-8 without one\n");
-        return Typed::Nothing;
+        say(
+            err,
+            b"the text begins with a byte-order mark: save it as UTF-8 without one\n",
+        )?;
+        return Ok(Typed::Nothing);
     }
-    Typed::Text(length)
+    Ok(Typed::Text(length))
 }

@@ -1,4 +1,6 @@
 // A summary is kept right: a line in use is changed, or one is appended, with its block's figure and the grand total. Neither ledger nor summary is walked.
+#![tactic(auto)]
+
 mod figures; // figures.rt: what a new value makes of the figures
 
 ghost use Rattle.upkeep.specs.Upkeep.{ChangePromise, AppendPromise};
@@ -7,21 +9,21 @@ use terms::{Item, Refusal};
 use totals::{ShapeAnswer, TotalAnswer};
 
 // The new count of lines in use, or the first refusal.
-#[derive(Drop)]
+#[derive(Clone, Copy)]
 pub enum CountAnswer {
     Count(usize),
     Refused(Refusal),
 }
 
 // The figure of a line's block and the grand total, with its new value.
-#[derive(Drop)]
+#[derive(Clone, Copy)]
 pub struct NewFigures {
     pub figure: u64,
     pub grand: u64,
 }
 
 // The new figures, or the first refusal.
-#[derive(Drop)]
+#[derive(Clone, Copy)]
 pub enum FiguresAnswer {
     Figures(NewFigures),
     Refused(Refusal),

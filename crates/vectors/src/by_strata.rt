@@ -3,6 +3,7 @@ use feed::fields::Case;
 use feed::{fields, lines, rooms};
 use parts::{front_to_fill, part};
 use results::{StratumPlan, StratumProjection};
+use std::io;
 
 // The digest with the figures of a row of the plan.
 fn digest_planned(digest: u64, row: StratumPlan) -> u64 {
@@ -52,51 +53,89 @@ fn digest_projection(rows: [StratumProjection; 32]) -> u64 {
     digest
 }
 
-fn plan(number: u64, case: Case, ledger: &[u64], errors: &[i64], words: &[u64]) {
+fn plan(
+    rt: &impl Print,
+    number: u64,
+    case: Case,
+    ledger: &[u64],
+    errors: &[i64],
+    words: &[u64],
+) -> io::Result<()> {
     let r = calls::strata_plan(ledger, fields::counts(words, case.second), case.first);
     let rows = r.stratum;
     let digest = digest_plan(rows);
     let answer = calls::of_strata_plan(r);
-    lines::tell_rows(number, 10, answer, digest, ledger, errors, words);
+    lines::tell_rows(rt, number, 10, answer, digest, ledger, errors, words)
 }
 
-fn draw(number: u64, case: Case, ledger: &[u64], errors: &[i64], words: &[u64], room: &mut [u8]) {
+fn draw(
+    rt: &impl Print,
+    number: u64,
+    case: Case,
+    ledger: &[u64],
+    errors: &[i64],
+    words: &[u64],
+    room: &mut [u8],
+) -> io::Result<()> {
     rooms::fill(room);
     let counts = fields::counts(words, case.second);
     let starts = fields::starts(words, case.second);
     let answer = calls::strata_draw(ledger, counts, case.first, starts, room);
-    lines::tell(number, 11, answer, room, ledger, errors, words);
+    lines::tell(rt, number, 11, answer, room, ledger, errors, words)
 }
 
-fn project(number: u64, case: Case, ledger: &[u64], errors: &[i64], words: &[u64]) {
+fn project(
+    rt: &impl Print,
+    number: u64,
+    case: Case,
+    ledger: &[u64],
+    errors: &[i64],
+    words: &[u64],
+) -> io::Result<()> {
     let counts = fields::counts(words, case.second);
     let starts = fields::starts(words, case.second);
     let r = calls::strata_project(ledger, counts, case.first, starts, errors);
     let rows = r.stratum;
     let digest = digest_projection(rows);
     let answer = calls::of_strata_project(r);
-    lines::tell_rows(number, 12, answer, digest, ledger, errors, words);
+    lines::tell_rows(rt, number, 12, answer, digest, ledger, errors, words)
 }
 
-fn call(number: u64, case: Case, ledger: &[u64], errors: &[i64], words: &[u64], room: &mut [u8]) {
+fn call(
+    rt: &impl Print,
+    number: u64,
+    case: Case,
+    ledger: &[u64],
+    errors: &[i64],
+    words: &[u64],
+    room: &mut [u8],
+) -> io::Result<()> {
     let operation = case.operation;
     match operation {
-        10 => plan(number, case, ledger, errors, words),
-        11 => draw(number, case, ledger, errors, words, room),
-        _ => project(number, case, ledger, errors, words),
+        10 => plan(rt, number, case, ledger, errors, words),
+        11 => draw(rt, number, case, ledger, errors, words, room),
+        _ => project(rt, number, case, ledger, errors, words),
     }
 }
 
-pub fn run(number: u64, input: &[u8], numbers: &mut [u64], errors: &mut [i64], room: &mut [u8]) {
+pub fn run(
+    rt: &impl Print,
+    number: u64,
+    input: &[u8],
+    numbers: &mut [u64],
+    errors: &mut [i64],
+    room: &mut [u8],
+) -> io::Result<()> {
     let errors = fields::errors(input, numbers, errors);
     let lists = fields::lay(input, numbers);
     let case = fields::numbers(input);
     call(
+        rt,
         number,
         case,
         part(numbers, 0, lists.ledger),
         errors,
         part(numbers, lists.ledger, lists.words),
         front_to_fill(room, case.room),
-    );
+    )
 }

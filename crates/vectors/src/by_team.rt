@@ -4,6 +4,7 @@ use answers::Answer;
 use feed::fields::Case;
 use feed::{fields, lines, rooms};
 use parts::{front_to_fill, part};
+use std::io;
 
 fn post_all(
     case: Case,
@@ -43,6 +44,7 @@ fn answer(
 }
 
 fn call(
+    rt: &impl Print,
     number: u64,
     case: Case,
     ledger: &[u64],
@@ -50,24 +52,35 @@ fn call(
     words: &[u64],
     amounts: &mut [i64],
     room: &mut [u8],
-) {
+) -> io::Result<()> {
     rooms::fill_from(words, room);
     let answer = answer(case, ledger, room, errors, words, amounts);
-    lines::tell(number, case.operation, answer, room, ledger, errors, words);
+    lines::tell(
+        rt,
+        number,
+        case.operation,
+        answer,
+        room,
+        ledger,
+        errors,
+        words,
+    )
 }
 
 pub fn run(
+    rt: &impl Print,
     number: u64,
     input: &[u8],
     numbers: &mut [u64],
     errors: &mut [i64],
     amounts: &mut [i64],
     room: &mut [u8],
-) {
+) -> io::Result<()> {
     let errors = fields::errors(input, numbers, errors);
     let lists = fields::lay(input, numbers);
     let case = fields::numbers(input);
     call(
+        rt,
         number,
         case,
         part(numbers, 0, lists.ledger),
@@ -75,5 +88,5 @@ pub fn run(
         part(numbers, lists.ledger, lists.words),
         amounts,
         front_to_fill(room, case.room),
-    );
+    )
 }

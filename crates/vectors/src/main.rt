@@ -1,5 +1,7 @@
 // Runs every operation on the cases of standard input and writes a line for each: the answer, and a digest of every lent list.
 // The form of the cases is told in docs/VECTORS.md. One case is held at a time.
+#![tactic(auto)]
+
 mod by_strata; // by_strata.rt: cases by strata
 mod by_team; // by_team.rt: cases by a team's own bits
 mod postings; // postings.rt: cases of findings
@@ -7,10 +9,12 @@ mod projected; // projected.rt: cases of the projected lines
 mod reads; // reads.rt: cases of a read
 mod salvages; // salvages.rt: cases of a salvage
 mod seasons; // seasons.rt: cases of the tally of a season
-mod steps; // steps.rt: cases of the other operations
+mod method; // method.rt: cases of the other operations
 mod summaries; // summaries.rt: cases of the totals beside the ledger
 
 ghost use Rattle.std.specs.Prelude.{◌≡◌, length};
+
+use std::io;
 
 // Room for the lists of a case: a ledger of 100,000 lines, and 5,000 words.
 fn numbers() -> [u64; 105_000]
@@ -35,46 +39,48 @@ fn bytes() -> [u8; 100_000]
 
 // The case of a number, by its operation.
 fn run(
+    rt: &impl Print,
     number: u64,
     case: &[u8],
     numbers: &mut [u64],
     errors: &mut [i64],
     amounts: &mut [i64],
     room: &mut [u8],
-) {
+) -> io::Result<()> {
     match feed::input::byte_at(case, 0) {
-        7 => reads::run(number, case, room),
-        9 => projected::run(number, case, numbers, errors, amounts),
-        10..=12 => by_strata::run(number, case, numbers, errors, room),
-        13 => seasons::run(number, case, numbers),
-        16 | 17 => postings::run(number, case, numbers, errors, amounts, room),
-        18..=21 => by_team::run(number, case, numbers, errors, amounts, room),
-        24 => salvages::run(number, case, room),
-        25..=30 => summaries::run(number, case, numbers),
-        _ => steps::run(number, case, numbers, errors, room),
+        7 => reads::run(rt, number, case, room),
+        9 => projected::run(rt, number, case, numbers, errors, amounts),
+        10..=12 => by_strata::run(rt, number, case, numbers, errors, room),
+        13 => seasons::run(rt, number, case, numbers),
+        16 | 17 => postings::run(rt, number, case, numbers, errors, amounts, room),
+        18..=21 => by_team::run(rt, number, case, numbers, errors, amounts, room),
+        24 => salvages::run(rt, number, case, room),
+        25..=30 => summaries::run(rt, number, case, numbers),
+        _ => method::run(rt, number, case, numbers, errors, room),
     }
 }
 
 // The next case, where there is one.
 fn run_next(
+    rt: &(impl Input + Print),
     number: u64,
     input: &mut [u8],
     numbers: &mut [u64],
     errors: &mut [i64],
     amounts: &mut [i64],
     room: &mut [u8],
-) -> bool {
-    let case = feed::cases::next(number, input);
+) -> io::Result<bool> {
+    let case = feed::cases::next(rt, number, input)?;
     if case.len() == 0 {
-        return false;
+        return Ok(false);
     }
-    run(number, case, numbers, errors, amounts, room);
-    true
+    run(rt, number, case, numbers, errors, amounts, room)?;
+    Ok(true)
 }
 
 // Case after case. The last number of 64 bits is that of no case.
-fn main() {
-    let mut input = io::large_buffer();
+fn main(rt: HostRuntime) -> io::Result<()> {
+    let mut input = [0u8; 65_536];
     let mut numbers = numbers();
     let mut errors = signed_numbers();
     let mut amounts = signed_numbers();
@@ -82,14 +88,16 @@ fn main() {
     let mut number: u64 = 0;
     while number < 0xFFFF_FFFF_FFFF_FFFF
         && run_next(
+            &rt,
             number,
             &mut input,
             &mut numbers,
             &mut errors,
             &mut amounts,
             &mut room,
-        )
+        )?
     {
         number += 1;
     }
+    Ok(())
 }

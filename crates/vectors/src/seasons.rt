@@ -2,9 +2,10 @@
 use feed::{fields, lines, rooms};
 use results::TallyResult;
 use season::{Entry, Tally};
+use std::io;
 
 // The result of the last judgement, and the digest of all of them.
-#[derive(Drop)]
+#[derive(Clone, Copy)]
 struct Season {
     last: TallyResult,
     digest: u64,
@@ -86,11 +87,11 @@ fn add_all(tally: Tally, words: &[u64]) -> Season {
     Season { last, digest }
 }
 
-pub fn run(number: u64, input: &[u8], numbers: &mut [u64]) {
+pub fn run(rt: &impl Print, number: u64, input: &[u8], numbers: &mut [u64]) -> io::Result<()> {
     let case = fields::numbers(input);
     let words = fields::words(input, numbers);
     let season = add_all(with_refused(case.first), words);
     let last = season.last;
     let answer = calls::of_tally(last);
-    lines::tell_rows(number, 13, answer, season.digest, &[], &[], words);
+    lines::tell_rows(rt, number, 13, answer, season.digest, &[], &[], words)
 }

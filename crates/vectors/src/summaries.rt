@@ -3,6 +3,7 @@
 use answers::Answer;
 use feed::fields::Case;
 use feed::{fields, lines};
+use std::io;
 
 fn answer(case: Case, room: &mut [u64], summary: &mut [u64]) -> Answer {
     let count = case.first;
@@ -17,20 +18,29 @@ fn answer(case: Case, room: &mut [u64], summary: &mut [u64]) -> Answer {
     }
 }
 
-fn call(number: u64, case: Case, room: &mut [u64], summary: &mut [u64]) {
+fn call(
+    rt: &impl Print,
+    number: u64,
+    case: Case,
+    room: &mut [u64],
+    summary: &mut [u64],
+) -> io::Result<()> {
     let operation = case.operation;
     let answer = answer(case, room, summary);
     let none = [0u8; 0];
     let no_errors = [0i64; 0];
-    lines::tell(number, operation, answer, &none, room, &no_errors, summary);
+    lines::tell(
+        rt, number, operation, answer, &none, room, &no_errors, summary,
+    )
 }
 
-pub fn run(number: u64, input: &[u8], numbers: &mut [u64]) {
+pub fn run(rt: &impl Print, number: u64, input: &[u8], numbers: &mut [u64]) -> io::Result<()> {
     let mut words = [0u64; 1_000];
     call(
+        rt,
         number,
         fields::numbers(input),
         fields::ledger(input, numbers),
         fields::words(input, &mut words),
-    );
+    )
 }

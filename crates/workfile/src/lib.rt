@@ -1,4 +1,6 @@
 // The working file: its records, its limits, and what the reader and the writer answer. What a file holds is defined in specs/.
+#![tactic(auto)]
+
 use terms::Refusal;
 
 // The largest counts that a file holds, and the length of the longest legal file.
@@ -9,7 +11,7 @@ pub const MOST_FILE_LINES: usize = 2_048;
 pub const LONGEST_FILE: usize = 45_663;
 
 // The body of record P.
-#[derive(Drop)]
+#[derive(Clone, Copy)]
 pub struct Plan {
     pub level: u8,
     pub te: u64,
@@ -17,7 +19,7 @@ pub struct Plan {
 }
 
 // A record after P: W, L, E or U with its line and size, Z with the count and the sum of L; or that no whole record stands there.
-#[derive(Drop)]
+#[derive(Clone, Copy)]
 pub enum FileRecord {
     Word(u64),
     Value(u64),
@@ -27,7 +29,7 @@ pub enum FileRecord {
 }
 
 // What the rules ask of the records so far; `next_line` is the lowest line that an E or U may name.
-#[derive(Drop)]
+#[derive(Clone, Copy)]
 pub struct Tally {
     pub words: usize,
     pub lines: usize,
@@ -36,7 +38,7 @@ pub struct Tally {
 }
 
 // What a legal file holds, with the counts of its words and lines.
-#[derive(Drop)]
+#[derive(Clone, Copy)]
 pub struct Contents {
     pub level: u8,
     pub te: u64,
@@ -46,14 +48,14 @@ pub struct Contents {
 }
 
 // What the reader answers.
-#[derive(Drop)]
+#[derive(Clone, Copy)]
 pub enum ReadAnswer {
     Read(Contents),
     Refused(Refusal),
 }
 
 // What the writer answers: the file's length.
-#[derive(Drop)]
+#[derive(Clone, Copy)]
 pub enum WriteAnswer {
     Written(u64),
     Refused(Refusal),

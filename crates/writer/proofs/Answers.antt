@@ -72,11 +72,11 @@ module _ (p : Plan) (w v : List ℕ) (e : List ℤ) (f : List ℕ) where
 
   module _ (same : length e ≡ length v) where
     pub many_words : most_words < length w → WritePromise p w v e f (Refused NoLegalFile) f
-    many_words h = refuse NoLegalFile (law.many-words c (length f) same h)
+    many_words h = refuse NoLegalFile (law.many_words c (length f) same h)
 
     module _ (few : length w ≤ most_words) where
       pub many_lines : most_file_lines < length v → WritePromise p w v e f (Refused NoLegalFile) f
-      many_lines h = refuse NoLegalFile (law.many-lines c (length f) same few h)
+      many_lines h = refuse NoLegalFile (law.many_lines c (length f) same few h)
 
       pub past : (t : Total) → t ≡ total_of v → t ≡ Past → length v ≤ most_file_lines → WritePromise p w v e f (Refused NoLegalFile) f
       past t is told h = refuse NoLegalFile (law.sum_past c (length f) same few h (past_sum v t is told))
@@ -86,13 +86,13 @@ module _ (p : Plan) (w v : List ℕ) (e : List ℤ) (f : List ℕ) where
     pub no_room : (n : ℕ) → n ≡ 31 + 9 * length w + 9 * length v + 13 * length (error_records 0 e) → length f < n → WritePromise p w v e f (Refused (RoomTooShort n)) f
     no_room n needed h =
         let long : n ≡ length (encode c) = needed ∙ sym (length_encode c) in
-        refuse (RoomTooShort n) (law.counts-short c (length f) k (omega arith) ∙ ap (λ (m : ℕ). refused_by (RoomTooShort m)) (sym long))
+        refuse (RoomTooShort n) (law.counts_short c (length f) k (omega arith) ∙ ap (λ (m : ℕ). refused_by (RoomTooShort m)) (sym long))
 
     pub written : {f' : List ℕ} {m : ℕ} → 31 + 9 * length w + 9 * length v + 13 * length (error_records 0 e) ≤ length f → Laid f 0 (encode c) f' m
         → WritePromise p w v e f (Written m) f'
     written h d =
         let room : length (encode c) ≤ length f = omega (arith, length_encode c) in
-        let g = law.counts-write c (length f) k room in
+        let g = law.counts_write c (length f) k room in
         record {
           answer = ap accepted (d.ends ∙ omega arith) ∙ sym (ap (after (λ bs. accepted (length bs))) g);
           file_left = d.same ∙ lay_over f (encode c) room ∙ sym (ap (left (λ bs. over bs f) f) g);

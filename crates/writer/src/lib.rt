@@ -1,4 +1,6 @@
 // The writer of the working file: it judges the content and the room before it stores anything.
+#![tactic(auto)]
+
 mod lists; // lists.rt: the records of a list, and what a list adds up to
 pub mod records; // records.rt: one record
 
@@ -12,7 +14,7 @@ use terms::Refusal;
 use workfile::{Plan, WriteAnswer};
 
 // The sum of a list of values, or that it passes 64 bits.
-#[derive(Drop)]
+#[derive(Clone, Copy)]
 pub enum Total {
     Sum(u64),
     Past,

@@ -1,0 +1,22 @@
+-- `divided::divide` meets its contract. The invariant: the lines from `at` on give what the text does. The measure is what is left of the length. Assumes nothing.
+use borrow.Author.Rules.{rules}
+use Rattle.divided.proofs.Standing.{starts, less, rooms, out_of_order, onward, finished}
+use Rattle.divided.proofs.divide.Goals as goal
+
+pub loop-at-init : goal.loop-at-init
+loop-at-init c = search (rules, starts)
+
+pub returns-in-Not : goal.returns-in-Not
+returns-in-Not c = search (rules, out_of_order)
+
+pub with_part-so_far-requires : goal.with_part-so_far-requires
+with_part-so_far-requires c = search (rules, rooms)
+
+pub loop-at-smaller : goal.loop-at-smaller
+loop-at-smaller c = search (rules, less)
+
+pub loop-at-preserved : goal.loop-at-preserved
+loop-at-preserved c = search (rules, onward)
+
+pub returns : goal.returns
+returns c = search (rules, finished)

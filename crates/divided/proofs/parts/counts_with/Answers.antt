@@ -1,0 +1,13 @@
+-- `divided::parts::counts_with` meets its contract: the count of an open stratum goes to its place, if there is one. Assumes nothing.
+use borrow.Author.Rules.{rules}
+use Rattle.divided.proofs.Testing.{none_open, past_room, counted}
+use Rattle.divided.proofs.parts.counts_with.Goals as goal
+
+pub returns-then-s-eq0 : goal.returns-then-s-eq0
+returns-then-s-eq0 c = search (rules, none_open)
+
+pub returns-then-place-ge-STORED : goal.returns-then-place-ge-STORED
+returns-then-place-ge-STORED c = search (rules, past_room)
+
+pub returns : goal.returns
+returns c = search (rules, counted)

@@ -1,0 +1,6 @@
+-- `findings::post_all` meets its contract: by all eight bits of the marks. Assumes nothing.
+use Rattle.findings.proofs.Pairs.{all_plain}
+use Rattle.findings.proofs.post_all.Goals as goal
+
+pub returns : goal.returns
+returns c = search all_plain

@@ -1,0 +1,12 @@
+-- `notation::check` meets its contract. The invariant: the lines from `at` on give what the text does. The measure is what is left of the length.
+-- Assumes nothing.
+use Prim.Native.Nat.{◌-◌}
+use lib.ListN.{length}
+use Rattle.notation.proofs.Passing.{Stands}
+use Rattle.notation.proofs.check.Given as goal
+
+abbrev pub invariant-loop-at : goal.invariant-loop-at
+invariant-loop-at l = Stands l.by l.text l.at l.line l.state
+
+abbrev pub decreases-loop-at : goal.decreases-loop-at
+decreases-loop-at l = length l.text - l.at

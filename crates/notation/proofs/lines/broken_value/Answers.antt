@@ -1,0 +1,17 @@
+-- `notation::lines::broken_value` meets its contract: the tests are those of `broken_rule`. Assumes nothing.
+use borrow.Author.Rules.{rules}
+use borrow.Author.Tests.{lt-ltb, le-ltb}
+use Rattle.notation.specs.Contents.{broken_rule}
+use Rattle.notation.proofs.lines.broken_value.Goals as goal
+
+pub returns-then-tally-gt0 : goal.returns-then-tally-gt0
+unfolding broken_rule
+returns-then-tally-gt0 c = search (rules, lt-ltb)
+
+pub returns-then-tally-ge-MOST_FILE_LINES : goal.returns-then-tally-ge-MOST_FILE_LINES
+unfolding broken_rule
+returns-then-tally-ge-MOST_FILE_LINES c = search (rules, le-ltb)
+
+pub returns : goal.returns
+unfolding broken_rule
+returns c = search (rules, lt-ltb, le-ltb)

@@ -1,0 +1,5 @@
+-- The measure of `pen::Pen::number` is the number.
+use Rattle.pen.proofs.Pen.+number.Given as goal
+
+abbrev pub decreases-number : goal.decreases-number
+decreases-number l = l.n

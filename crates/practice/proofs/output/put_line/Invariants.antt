@@ -1,0 +1,9 @@
+-- `practice::lines::put_line` is safe and ends. The invariant: the page keeps its length. Assumes nothing.
+use Rattle.std.proofs.Common.{length, ◌-◌, ◌≡◌}
+use Rattle.practice.proofs.output.put_line.Given as goal
+
+abbrev pub invariant-loop-i : goal.invariant-loop-i
+invariant-loop-i g l = length l.page ≡ length l.initial.page
+
+abbrev pub decreases-loop-i : goal.decreases-loop-i
+decreases-loop-i g l = length l.initial.page - l.i

@@ -1,0 +1,63 @@
+// A line of the output: what a line of standard input says of a case, its name and what is expected; then what was found.
+use answers::Answer;
+use pen::Pen;
+use std::io;
+
+// The next byte of standard input; at its end, the end of a line.
+fn next_byte(rt: &impl Input) -> io::Result<u8> {
+    let mut byte = [10u8; 1];
+    streams::read_full(&mut rt.reader(), &mut byte)?;
+    Ok(byte[0])
+}
+
+// The next line of standard input, without its end.
+fn put_line(rt: &impl Input, page: &mut [u8]) -> io::Result<Pen> {
+    let mut pen = Pen { at: 0 };
+    let mut byte = next_byte(rt)?;
+    let mut i: usize = 0;
+    while i < page.len() && byte != 10 {
+        pen = pen.byte(page, byte);
+        byte = next_byte(rt)?;
+        i += 1;
+    }
+    Ok(pen)
+}
+
+fn open(rt: &impl Input, page: &mut [u8]) -> io::Result<Pen> {
+    let told = put_line(rt, page)?;
+    Ok(told.text(page, b", found"))
+}
+
+// A case that finds an answer.
+pub fn found(rt: &(impl Input + Print), answer: Answer) -> io::Result<()> {
+    let mut page = [0u8; 256];
+    let opened = open(rt, &mut page)?;
+    let told = answers::put(opened, &mut page, answer);
+    answers::write_line(rt, &mut page, told)
+}
+
+// A case that finds a number.
+pub fn number(rt: &(impl Input + Print), found: u64) -> io::Result<()> {
+    let mut page = [0u8; 256];
+    let opened = open(rt, &mut page)?;
+    let told = opened.field(&mut page, found);
+    answers::write_line(rt, &mut page, told)
+}
+
+fn put_marks(pen: Pen, page: &mut [u8], marks: &[u8]) -> Pen {
+    let mut told = pen;
+    let mut i: usize = 0;
+    while i < marks.len() {
+        told = told.field(page, terms::widen(marks[i]));
+        i += 1;
+    }
+    told
+}
+
+// A case that finds marks.
+pub fn marks(rt: &(impl Input + Print), found: &[u8]) -> io::Result<()> {
+    let mut page = [0u8; 256];
+    let opened = open(rt, &mut page)?;
+    let told = put_marks(opened, &mut page, found);
+    answers::write_line(rt, &mut page, told)
+}

@@ -1,0 +1,10 @@
+-- `report::put_report` meets its contract: the line of a refusal, or of what was done. Assumes nothing.
+use borrow.Author.Rules.{rules}
+use Rattle.report.proofs.Writing.{report_refused, report_kept}
+use Rattle.report.proofs.put_report.Goals as goal
+
+pub returns-in-Refused : goal.returns-in-Refused
+returns-in-Refused c = search (rules, report_refused)
+
+pub returns-in-Kept : goal.returns-in-Kept
+returns-in-Kept c = search (rules, report_kept)

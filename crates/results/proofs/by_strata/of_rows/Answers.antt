@@ -1,0 +1,15 @@
+-- `results::by_strata::of_rows` meets its contract. The measure is what is left of the rows. Assumes nothing.
+use borrow.Author.Rules.{rules}
+use Rattle.strata.specs.Strata.{no_row}
+use Rattle.results.specs.Strata.{stratum_plan_seen}
+use Rattle.results.proofs.Rows.{showing_none, showing_next, showing_end}
+use Rattle.results.proofs.by_strata.of_rows.Goals as goal
+
+pub loop-h-init : goal.loop-h-init
+loop-h-init c = showing_none stratum_plan_seen no_row (search rules) (search rules)
+
+pub loop-h-preserved : goal.loop-h-preserved
+loop-h-preserved c = search (showing_next stratum_plan_seen no_row)
+
+pub returns : goal.returns
+returns c = search (showing_end stratum_plan_seen no_row)

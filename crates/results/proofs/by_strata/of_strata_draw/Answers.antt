@@ -1,0 +1,11 @@
+-- `results::by_strata::of_strata_draw` meets its contract: what it returns is what the answer says. Assumes nothing.
+use Rattle.draw.specs.Draw.{draw_says}
+use Rattle.results.specs.Strata.{strata_draw_seen}
+use Rattle.results.proofs.Refused.{of_case}
+use Rattle.results.proofs.by_strata.of_strata_draw.Goals as goal
+
+pub returns-in-Refused : goal.returns-in-Refused
+returns-in-Refused c = search (of_case strata_draw_seen draw_says, c.tell-told.ensures)
+
+pub returns-in-Drawn : goal.returns-in-Drawn
+returns-in-Drawn c = search (of_case strata_draw_seen draw_says)

@@ -1,0 +1,11 @@
+-- `results::summary::of_change` meets its contract: what it returns is what the answer says. Assumes nothing.
+use Rattle.totals.specs.Summary.{total_says}
+use Rattle.results.specs.Totals.{totals_change_seen}
+use Rattle.results.proofs.Refused.{of_case}
+use Rattle.results.proofs.summary.of_change.Goals as goal
+
+pub returns-in-Refused : goal.returns-in-Refused
+returns-in-Refused c = search (of_case totals_change_seen total_says, c.tell-told.ensures)
+
+pub returns-in-Total : goal.returns-in-Total
+returns-in-Total c = search (of_case totals_change_seen total_says)

@@ -1,0 +1,15 @@
+-- `strata::checked` meets its contract: the tests that led to a `return` say which case of `checked_of` holds. Assumes nothing.
+use Rattle.strata.proofs.Planning.{no_strata, too_many_strata, counts_differ, counts_agree}
+use Rattle.strata.proofs.checked.Goals as goal
+
+pub returns-then-counts-eq0 : goal.returns-then-counts-eq0
+returns-then-counts-eq0 c = search no_strata
+
+pub returns-then-counts-gt-MOST_STRATA : goal.returns-then-counts-gt-MOST_STRATA
+returns-then-counts-gt-MOST_STRATA c = search too_many_strata
+
+pub returns-then-counts_add : goal.returns-then-counts_add
+returns-then-counts_add c = search counts_agree
+
+pub returns : goal.returns
+returns c = search counts_differ

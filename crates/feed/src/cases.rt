@@ -15,9 +15,9 @@ fn stop(rt: &impl Print, number: u64, wrong: &[u8]) -> io::Result<usize> {
 }
 
 // The length of the next case.
-fn length(rt: &(impl Input + Print), number: u64) -> io::Result<usize> {
+fn length(rt: &HostRuntime, number: u64) -> io::Result<usize> {
     let mut header = [0u8; 4];
-    let got = streams::read_full(&mut rt.reader(), &mut header)?;
+    let got = streams::read_full(&mut rt.stdin(), &mut header)?;
     if got < 4 {
         return stop(rt, number, b" has no length, and no end stands before it");
     }
@@ -25,16 +25,11 @@ fn length(rt: &(impl Input + Print), number: u64) -> io::Result<usize> {
 }
 
 // The bytes of a case of this length; the answer is how many there are.
-fn read(
-    rt: &(impl Input + Print),
-    number: u64,
-    input: &mut [u8],
-    length: usize,
-) -> io::Result<usize> {
+fn read(rt: &HostRuntime, number: u64, input: &mut [u8], length: usize) -> io::Result<usize> {
     if length > input.len() {
         return stop(rt, number, b" is longer than the room for a case");
     }
-    let got = streams::read_full(&mut rt.reader(), front_to_fill(input, length))?;
+    let got = streams::read_full(&mut rt.stdin(), front_to_fill(input, length))?;
     if got < length {
         return stop(rt, number, b" is cut short");
     }
@@ -42,11 +37,7 @@ fn read(
 }
 
 // The next case, read into a buffer; no bytes where there is none.
-pub fn next<'a>(
-    rt: &(impl Input + Print),
-    number: u64,
-    input: &'a mut [u8],
-) -> io::Result<&'a [u8]> {
+pub fn next<'a>(rt: &HostRuntime, number: u64, input: &'a mut [u8]) -> io::Result<&'a [u8]> {
     let length = length(rt, number)?;
     let count = read(rt, number, input, length)?;
     Ok(front(input, count))

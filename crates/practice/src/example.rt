@@ -13,7 +13,7 @@ const TE: u64 = 8_399_764_048;
 // The total over 136 draws.
 const INTERVAL: u64 = 3_088_148_547;
 
-pub fn draws(rt: &(impl Input + Print)) -> io::Result<()> {
+pub fn draws(rt: &HostRuntime) -> io::Result<()> {
     found(rt, calls::size(90, 419_988_202_400, TE, 839_976_404))
 }
 
@@ -28,20 +28,20 @@ fn ledger() -> [u64; 137]
     lines
 }
 
-pub fn interval(rt: &(impl Input + Print)) -> io::Result<()> {
+pub fn interval(rt: &HostRuntime) -> io::Result<()> {
     let lines = ledger();
     found(rt, calls::split_figures(&lines, 136))
 }
 
 // The projected error of one rate.
-fn projected(rt: &(impl Input + Print), rate: i64) -> io::Result<()> {
+fn projected(rt: &HostRuntime, rate: i64) -> io::Result<()> {
     let lines = ledger();
     let mut errors = [0i64; 137];
     errors[0] = rate;
     found(rt, calls::project(&lines, 136, 0, &errors))
 }
 
-pub fn projections(rt: &(impl Input + Print)) -> io::Result<()> {
+pub fn projections(rt: &HostRuntime) -> io::Result<()> {
     projected(rt, 212)?;
     projected(rt, 1)?;
     projected(rt, 24)?;
@@ -51,14 +51,14 @@ pub fn projections(rt: &(impl Input + Print)) -> io::Result<()> {
 }
 
 // The precision without errors is the basic one; the first order's allowance joins it.
-fn precision(rt: &(impl Input + Print), rate: i64) -> io::Result<()> {
+fn precision(rt: &HostRuntime, rate: i64) -> io::Result<()> {
     let lines = ledger();
     let mut errors = [0i64; 137];
     errors[0] = rate;
     found(rt, calls::judge(90, &lines, 136, 0, &errors, TE))
 }
 
-pub fn precisions(rt: &(impl Input + Print)) -> io::Result<()> {
+pub fn precisions(rt: &HostRuntime) -> io::Result<()> {
     precision(rt, 0)?;
     precision(rt, 212)
 }
@@ -80,14 +80,14 @@ fn step_of(order: usize) -> u64
 }
 
 // The step of an order times a projected error.
-fn allowance(rt: &(impl Input + Print), order: usize, projected: u64) -> io::Result<()>
+fn allowance(rt: &HostRuntime, order: usize, projected: u64) -> io::Result<()>
     requires { projected ≤ 4000000000 }
 {
     let step = step_of(order);
     output::number(rt, step * projected / 100)
 }
 
-pub fn allowances(rt: &(impl Input + Print)) -> io::Result<()> {
+pub fn allowances(rt: &HostRuntime) -> io::Result<()> {
     allowance(rt, 1, 654_687_500)?;
     allowance(rt, 12, 2_948_800)?;
     allowance(rt, 13, 74_115_600)?;

@@ -4,14 +4,14 @@ use pen::Pen;
 use std::io;
 
 // The next byte of standard input; at its end, the end of a line.
-fn next_byte(rt: &impl Input) -> io::Result<u8> {
+fn next_byte(rt: &HostRuntime) -> io::Result<u8> {
     let mut byte = [10u8; 1];
-    streams::read_full(&mut rt.reader(), &mut byte)?;
+    streams::read_full(&mut rt.stdin(), &mut byte)?;
     Ok(byte[0])
 }
 
 // The next line of standard input, without its end.
-fn put_line(rt: &impl Input, page: &mut [u8]) -> io::Result<Pen> {
+fn put_line(rt: &HostRuntime, page: &mut [u8]) -> io::Result<Pen> {
     let mut pen = Pen { at: 0 };
     let mut byte = next_byte(rt)?;
     let mut i: usize = 0;
@@ -23,13 +23,13 @@ fn put_line(rt: &impl Input, page: &mut [u8]) -> io::Result<Pen> {
     Ok(pen)
 }
 
-fn open(rt: &impl Input, page: &mut [u8]) -> io::Result<Pen> {
+fn open(rt: &HostRuntime, page: &mut [u8]) -> io::Result<Pen> {
     let told = put_line(rt, page)?;
     Ok(told.text(page, b", found"))
 }
 
 // A case that finds an answer.
-pub fn found(rt: &(impl Input + Print), answer: Answer) -> io::Result<()> {
+pub fn found(rt: &HostRuntime, answer: Answer) -> io::Result<()> {
     let mut page = [0u8; 256];
     let opened = open(rt, &mut page)?;
     let told = answers::put(opened, &mut page, answer);
@@ -37,7 +37,7 @@ pub fn found(rt: &(impl Input + Print), answer: Answer) -> io::Result<()> {
 }
 
 // A case that finds a number.
-pub fn number(rt: &(impl Input + Print), found: u64) -> io::Result<()> {
+pub fn number(rt: &HostRuntime, found: u64) -> io::Result<()> {
     let mut page = [0u8; 256];
     let opened = open(rt, &mut page)?;
     let told = opened.field(&mut page, found);
@@ -55,7 +55,7 @@ fn put_marks(pen: Pen, page: &mut [u8], marks: &[u8]) -> Pen {
 }
 
 // A case that finds marks.
-pub fn marks(rt: &(impl Input + Print), found: &[u8]) -> io::Result<()> {
+pub fn marks(rt: &HostRuntime, found: &[u8]) -> io::Result<()> {
     let mut page = [0u8; 256];
     let opened = open(rt, &mut page)?;
     let told = put_marks(opened, &mut page, found);

@@ -42,7 +42,7 @@ module _ (ledger : List ℕ) (n start : ℕ) {r : SplitAnswer} where
   unfolding figures_at
   at_start is e s = s ∙ ap (after (start_in start)) (sym (ap split_says is) ∙ e)
 
--- where the start stands to the interval, as `start_fits_lem` meets it
+-- where the start stands to the interval, as `start_fits` meets it
 module _ (start J : ℕ) where
   pub fits_below : start < J → true ≡ start_fits start J
   fits_below h =

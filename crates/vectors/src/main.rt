@@ -62,7 +62,7 @@ fn run(
 
 // The next case, where there is one.
 fn run_next(
-    rt: &(impl Input + Print),
+    rt: &HostRuntime,
     number: u64,
     input: &mut [u8],
     numbers: &mut [u64],

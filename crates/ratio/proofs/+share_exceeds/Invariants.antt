@@ -1,4 +1,4 @@
--- The measure of `ratio::share_exceeds` is the sum of the two divisors, which the remainders take the place of.
+-- The measure of `ratio::share_exceeds` is the sum of the two divisors, which the remainders take the place of. Assumes nothing.
 use Rattle.std.proofs.Common.{◌+◌}
 use Rattle.ratio.proofs.+share_exceeds.Given as goal
 

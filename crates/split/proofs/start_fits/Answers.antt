@@ -1,4 +1,4 @@
--- `split::start_fits_lem` meets its contract: the test that led to a `return` says where the start stands to the interval. Assumes nothing.
+-- `split::start_fits` meets its contract: the test that led to a `return` says where the start stands to the interval. Assumes nothing.
 use Rattle.split.proofs.Start.{fits_below, fits_none}
 use Rattle.split.proofs.start_fits.Goals as goal
 

@@ -1,4 +1,4 @@
--- What was read lies in the room.
+-- `streams::read_full` is safe and ends: what was read lies in the room. Assumes nothing.
 use Rattle.std.proofs.Common.{◌≤◌, length}
 use Rattle.streams.proofs.read_full.Given as goal
 

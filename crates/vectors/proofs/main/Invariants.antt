@@ -1,4 +1,4 @@
--- `vectors::main` ends: the numbers of 64 bits that are left fall.
+-- `vectors::main` ends: the numbers of 64 bits that are left fall. Assumes nothing.
 use Rattle.std.proofs.Common.{◌-◌}
 use Rattle.vectors.proofs.main.Given as goal
 

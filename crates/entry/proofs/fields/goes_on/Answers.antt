@@ -1,4 +1,4 @@
--- `entry::fields::goes_on_lem` meets its contract: each arm is a case of `goes_on`. Assumes nothing.
+-- `entry::fields::goes_on` meets its contract: each arm is a case of `goes_on`. Assumes nothing.
 use borrow.Author.Rules.{rules}
 use Rattle.entry.proofs.Runs.{over_blanks, over_field, over_line}
 use Rattle.entry.proofs.fields.goes_on.Goals as goal

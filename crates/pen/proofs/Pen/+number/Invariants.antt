@@ -1,4 +1,4 @@
--- The measure of `pen::Pen::number` is the number.
+-- The measure of `pen::Pen::number` is the number. Assumes nothing.
 use Rattle.pen.proofs.Pen.+number.Given as goal
 
 abbrev pub decreases-number : goal.decreases-number

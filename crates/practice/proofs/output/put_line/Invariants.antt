@@ -1,4 +1,4 @@
--- `practice::lines::put_line` is safe and ends. The invariant: the page keeps its length. Assumes nothing.
+-- `practice::output::put_line` is safe and ends. The invariant: the page keeps its length. Assumes nothing.
 use Rattle.std.proofs.Common.{length, ◌-◌, ◌≡◌}
 use Rattle.practice.proofs.output.put_line.Given as goal
 

@@ -53,7 +53,9 @@
  *     mus_salvage               296
  *     mus_sheet              35,976   35,976               35,976
  *
- * It was measured on the library as `rt lib` in crates/mus makes it (docs/PERFORMANCE.md). */
+ * It was measured on the library as `rt lib` in crates/mus makes it (docs/PERFORMANCE.md). For every input eleven calls need more than
+ * the header before this one said, as another compiler made it: mus_strata_draw, mus_post, mus_post_all, mus_team_post,
+ * mus_team_post_all, mus_totals_build, mus_totals_find, mus_totals_append, mus_tally_add, mus_write and mus_salvage (docs/PORT.md). */
 #ifndef MUS_H
 #define MUS_H
 

@@ -96,10 +96,7 @@ class Source:
             return names_in(self.body, ANTT_NAME)
         if ghost:
             return names_in(" ".join(self.body[at:end] for at, end in contracts_of(self.body)), ANTT_NAME)
-        code, at = "", 0
-        for start, end in contracts_of(self.body):
-            code, at = code + self.body[at:start], end
-        return names_in(code + self.body[at:], RUST_NAME)
+        return names_in(code_of(self.body), RUST_NAME)
 
 
 def contracts_of(text):
@@ -112,6 +109,14 @@ def contracts_of(text):
             if not depth:
                 break
         yield start, end + 1
+
+
+def code_of(text):
+    """An .rt text without its contracts: a definition may have the name of a function."""
+    code, at = "", 0
+    for start, end in contracts_of(text):
+        code, at = code + text[at:start], end
+    return code + text[at:]
 
 
 def is_of_a_function(path):

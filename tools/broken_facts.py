@@ -10,9 +10,9 @@ ERROR = re.compile(r"(?P<before>(?:note: )?(?:\./)?)(?P<file>\S+?\.(?:antt|rt)):
 # A path of modules before a name: its last part says enough, and a fact that is known keeps its own path (`c.args.now`).
 PATH = re.compile(r"(?<![\w.·-])[A-Za-z]\w+(?:\.[\w+·-]+)*\.(?=[^\s.`)])")
 
-# What an error says where a fact has no proof. Others are of an edit's form: a name that is gone, a text that cannot be read.
+# What an error says where a fact has no proof. Others are of an edit's form, as a name that is gone, or say only that a search gave up or that an argument is wanted.
 FACTS = (
-    r"it is not proved that ",
+    r"it is not proved that [^;]*\(`[^`]*`\)(?:$|; the facts )",
     r"(?:`[^`]*`: )?no proof of ",
     r"(?:`[^`]*`: )?the (?:goal|part) (?:fails|does not follow)",
     r"(?:as printed|computed as far as they go), the two (?:types|sides|values|indices) ",
@@ -20,7 +20,6 @@ FACTS = (
     r"expected type `[^`]*(?:`?,? but this has type | \.\.`$)",
     r"this `[^`]*` lands at index ",
     r"`[^`]*` ≟ `[^`]*(?:`? does not hold| \.\.`$)",
-    r"give a proof of that as the last argument",
 )
 FACT = re.compile("|".join(FACTS))
 DECLARED = re.compile(r"`([^`]*)`: ")

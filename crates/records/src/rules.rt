@@ -8,6 +8,7 @@ use crate::Judged;
 use workfile::{FileRecord, Tally};
 
 // W: before any L, and at most 64.
+#[tactic(auto, unfolding(workfile::specs::Decode::fits))]
 fn judge_word(tally: Tally, word: u64) -> bool
     ensures { result ≡ fits tally (Word word) }
 {

@@ -174,7 +174,7 @@ module _ (f out : List ℕ) where
   module _ {s : Stopped} (is : s ≡ stopped_in f) where
     pub none_first : s.at ≡ 0 → SalvagePromise f out (Refused NoWholePlan) out
     unfolding salvage_of
-    none_first none = refuse NoWholePlan (rw (no_whole_plan f s is none))
+    none_first none = refuse NoWholePlan (rw (no_whole_plan f s is none) refl)
 
     pub no_room : (s.at ≡ 0 → ⊥) → length out < s.at + 13 → SalvagePromise f out (Refused (RoomTooShort (s.at + 13))) out
     unfolding salvage_of

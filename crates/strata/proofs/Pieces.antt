@@ -1,5 +1,5 @@
 -- The strata of a ledger, as a loop over the line counts meets them. Assumes nothing.
-use mathlib.Core.Path.{◌≡◌, sym, ap, ◌∙◌}
+use mathlib.Core.Path.{◌≡◌, refl, sym, ap, ◌∙◌}
 use mathlib.Core.List.{List, [], ◌∷◌}
 use Prim.Native.Nat.{ℕ, ◌+◌, ◌-◌, ◌^◌, ◌≤◌, ◌<◌}
 use native.Mathlib.Numerals.{add-one}
@@ -52,7 +52,7 @@ module _ {A : Type 0} (l : List A) (counts : List ℕ) (at h : ℕ) where
   pub parts_on : h < length counts →
       parts_of (drop h counts) (drop at l) ≡ take (get_or counts h 0) (drop at l) ∷ parts_of (drop (h + 1) counts) (drop (at + get_or counts h 0) l)
   unfolding parts_of
-  parts_on inside = rw (drop-cons counts h 0 inside, add-one, sym (drop-drop (get_or counts h 0) at l))
+  parts_on inside = rw (drop-cons counts h 0 inside, add-one, sym (drop-drop (get_or counts h 0) at l)) refl
 
   pub parts_past : length counts ≤ h → parts_of (drop h counts) (drop at l) ≡ []
   unfolding parts_of

@@ -14,17 +14,17 @@ PATH = re.compile(r"(?<![\w.·-])[A-Za-z]\w+(?:\.[\w+·-]+)*\.(?=[^\s.`)])")
 FACTS = (
     r"it is not proved that [^;]*\(`[^`]*`\)(?:$|; the facts )",
     r"(?:`[^`]*`: )?no proof of ",
-    r"(?:`[^`]*`: )?the (?:goal|part) (?:fails|does not follow)",
+    r"(?:`[^`]*`: )?the (?:goal|part)(?: `[^`]*` of the goal)? (?:fails|does not follow)",
     r"(?:as printed|computed as far as they go), the two (?:types|sides|values|indices) ",
     r"computed as a goal is, one side reads ",
-    r"expected type `[^`]*(?:`?,? but this has type | \.\.`$)",
+    r"expected type `[^`]*`(?:,? but\b| \.\.$|$)",
     r"this `[^`]*` lands at index ",
     r"`[^`]*` ≟ `[^`]*(?:`? does not hold| \.\.`$)",
 )
 FACT = re.compile("|".join(FACTS))
 DECLARED = re.compile(r"`([^`]*)`: ")
 TACTIC = re.compile(r"^`(?:search|omega|grind|simp|rw)`: ")
-FAILS = re.compile(r"^the (goal|part) does not follow\b(?:.*?\bfails, (at .*[^. ].*)|.*)")
+FAILS = re.compile(r"^the ((?:goal|part)(?: `[^`]*` of the goal)?) does not follow\b(?:.*?\bfails, (at .*[^. ].*)|.*)")
 
 
 def printed(line):

@@ -7,13 +7,13 @@ pub returns-then-ledger-gt-MOST_LINES : goal.returns-then-ledger-gt-MOST_LINES
 returns-then-ledger-gt-MOST_LINES c = too_many_lines _ _ (omega arith)
 
 pub returns-then-not-same : goal.returns-then-not-same
-returns-then-not-same c = search lengths_differ
+returns-then-not-same c = lengths_differ _ _ (omega arith) (search)
 
 pub returns-in-Refused : goal.returns-in-Refused
-returns-in-Refused c = search line_refused
+returns-in-Refused c = line_refused _ _ (omega arith) (search) c.judge_lines.ensures c.in-Refused.is
 
 pub returns-then-total-eq0 : goal.returns-then-total-eq0
-returns-then-total-eq0 c = search total_zero
+returns-then-total-eq0 c = total_zero _ _ (omega arith) (search) c.judge_lines.ensures c.in-Total.is (omega arith)
 
 pub returns-else-total-eq0 : goal.returns-else-total-eq0
-returns-else-total-eq0 c = search some_total_lem
+returns-else-total-eq0 c = some_total_lem _ _ (omega arith) (search) c.judge_lines.ensures c.in-Total.is c.if-total-eq0.false

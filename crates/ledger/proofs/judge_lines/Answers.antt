@@ -11,10 +11,10 @@ pub returns-then-value-gt-MOST_VALUE : goal.returns-then-value-gt-MOST_VALUE
 returns-then-value-gt-MOST_VALUE c = value_too_large c.loop-line.invariant (omega arith) (omega arith)
 
 pub returns-then-total-gt-MOST_TOTAL : goal.returns-then-total-gt-MOST_TOTAL
-returns-then-total-gt-MOST_TOTAL c = search total_too_large
+returns-then-total-gt-MOST_TOTAL c = total_too_large c.loop-line.invariant (omega arith) (omega arith) (omega arith)
 
 pub loop-line-preserved : goal.loop-line-preserved
-loop-line-preserved c = search next_line
+loop-line-preserved c = next_line c.loop-line.invariant (omega arith) (omega arith) (omega arith)
 
 pub returns : goal.returns
 returns c = search no_line

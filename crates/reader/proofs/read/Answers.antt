@@ -17,7 +17,7 @@ pub store-requires : goal.store-requires
 store-requires c = search (rules, is_legal)
 
 pub returns-in-Broken : goal.returns-in-Broken
-returns-in-Broken c = search (rules, broken_file)
+returns-in-Broken c = broken_file _ _ _ _ (record { words = omega arith; values = omega arith; errors = omega arith }) c.check.ensures c.in-Broken.is
 
 pub returns-in-Legal : goal.returns-in-Legal
-returns-in-Legal c = search (rules, read_file)
+returns-in-Legal c = read_file _ _ _ _ (record { words = omega arith; values = omega arith; errors = omega arith }) c.store.ensures

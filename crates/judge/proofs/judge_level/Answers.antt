@@ -4,7 +4,7 @@ use Rattle.judge.proofs.Answer.{ledger_refused, total_is, te_zero, te_above, te_
 use Rattle.judge.proofs.judge_level.Goals as goal
 
 pub returns-then-te-eq0 : goal.returns-then-te-eq0
-returns-then-te-eq0 c = search te_zero
+returns-then-te-eq0 c = te_zero _ _ _ _ _ _ _ c.judge_ledger.ensures _ c.in-Total.is (omega arith)
 
 pub returns-then-te-total : goal.returns-then-te-total
 returns-then-te-total c = te_above _ _ _ _ _ _ _ c.judge_ledger.ensures _ c.in-Total.is (λ none. omega arith) (λ most. omega arith)
@@ -16,4 +16,4 @@ pub returns-in-Refused : goal.returns-in-Refused
 returns-in-Refused c = search ledger_refused
 
 pub returns-else-te-total : goal.returns-else-te-total
-returns-else-te-total c = search te_within
+returns-else-te-total c = te_within _ _ _ _ _ _ _ c.judge_ledger.ensures _ c.in-Total.is (λ none. omega arith) (omega arith) _ c.judge_total.ensures

@@ -10,10 +10,10 @@ pub returns-then-total-eq0 : goal.returns-then-total-eq0
 returns-then-total-eq0 c = total_zero _ _ _ _ (omega arith) (omega arith)
 
 pub returns-then-te-eq0 : goal.returns-then-te-eq0
-returns-then-te-eq0 c = search te_zero
+returns-then-te-eq0 c = te_zero _ _ _ _ (omega arith) (λ none. omega arith) (omega arith)
 
 pub returns-then-te-total : goal.returns-then-te-total
-returns-then-te-total c = search te_above
+returns-then-te-total c = te_above _ _ _ _ (omega arith) (λ none. omega arith) (λ none. omega arith) (omega arith)
 
 pub returns-then-ae-total : goal.returns-then-ae-total
 returns-then-ae-total c = ae_above _ _ _ _ (omega arith) (λ none. omega arith) (λ none. omega arith) (omega arith) (omega arith)
@@ -34,4 +34,6 @@ pub overflow_add-draws : goal.overflow_add-draws
 overflow_add-draws c = sum_fits _ _ _ _ (omega arith) c.reliability.ensures _ (omega arith)
 
 pub returns : goal.returns
-returns c = search answered
+returns c =
+    answered _ _ _ _ (omega arith) (λ none. omega arith) (λ none. omega arith) (omega arith) (omega arith) c.expansion.result (omega arith) c.reliability.result
+    c.reliability.ensures (omega arith)

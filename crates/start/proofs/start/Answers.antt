@@ -13,4 +13,4 @@ pub first_below-requires : goal.first_below-requires
 first_below-requires c = some_range _ c.range_of-range.ensures
 
 pub returns : goal.returns
-returns c = search chosen
+returns c = chosen (omega arith) (omega arith) c.range_of-range.ensures (search)

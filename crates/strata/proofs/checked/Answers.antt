@@ -1,4 +1,5 @@
 -- `strata::checked` meets its contract: the tests that led to a `return` say which case of `checked_of` holds. Assumes nothing.
+use native.Mathlib.Omega.{arith}
 use Rattle.strata.proofs.Planning.{no_strata, too_many_strata, counts_differ, counts_agree}
 use Rattle.strata.proofs.checked.Goals as goal
 
@@ -9,7 +10,7 @@ pub returns-then-counts-gt-MOST_STRATA : goal.returns-then-counts-gt-MOST_STRATA
 returns-then-counts-gt-MOST_STRATA c = search too_many_strata
 
 pub returns-then-counts_add : goal.returns-then-counts_add
-returns-then-counts_add c = search counts_agree
+returns-then-counts_add c = counts_agree _ _ _ (λ none. omega arith) (omega arith) c.counts_add.ensures (search) c.judge_lent.ensures
 
 pub returns : goal.returns
-returns c = search counts_differ
+returns c = counts_differ _ _ _ (λ none. omega arith) (omega arith) c.counts_add.ensures (search)

@@ -12,7 +12,7 @@ placed : (c : In-At) → Placed c.args.level c.args.tolerance c.in-At.at
 placed c = record { found = sym (ap place_says c.in-At.is) ∙ c.entry_place.ensures }
 
 pub returns-then-exceptions-gt10 : goal.returns-then-exceptions-gt10
-returns-then-exceptions-gt10 c = bound_promised (too_many (placed (goal.at.returns-then-exceptions-gt10 c).In-At) (omega (arith, c.if-exceptions-gt10.true)))
+returns-then-exceptions-gt10 c = bound_promised (too_many (placed (goal.at.returns-then-exceptions-gt10 c).In-At) (omega arith))
 
 pub overflow_mul-at : goal.overflow_mul-at
 overflow_mul-at c = omega (arith, place_fits (placed (goal.at.overflow_mul-at c).In-At))

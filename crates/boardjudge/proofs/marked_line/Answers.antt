@@ -1,4 +1,5 @@
 -- `boardjudge::marked_line` meets its contract: each return by the tests that led there. Assumes nothing.
+use native.Mathlib.Omega.{arith}
 use Rattle.boardjudge.proofs.Marks.{is_full, is_drawn, drawn_fits, is_neither}
 use Rattle.boardjudge.proofs.marked_line.Goals as goal
 
@@ -9,7 +10,7 @@ pub board_amount-amount-requires : goal.board_amount-amount-requires
 board_amount-amount-requires c = drawn_fits _ _ _ _ c.requires c.if-mark-eq1.true
 
 pub returns-then-mark-eq1 : goal.returns-then-mark-eq1
-returns-then-mark-eq1 c = search is_drawn
+returns-then-mark-eq1 c = is_drawn _ _ _ _ _ (λ two. omega arith) c.if-mark-eq1.true c.board_amount-amount.ensures.0
 
 pub returns : goal.returns
-returns c = search is_neither
+returns c = is_neither c.args.interval c.args.value c.args.error c.args.mark (λ two. omega arith) c.if-mark-eq1.false

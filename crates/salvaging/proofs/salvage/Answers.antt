@@ -4,19 +4,19 @@ use Rattle.salvaging.proofs.Answers.{none_first, no_room, salvaged, ended_so, ne
 use Rattle.salvaging.proofs.salvage.Goals as goal
 
 pub returns-then-at-eq0 : goal.returns-then-at-eq0
-returns-then-at-eq0 c = search none_first
+returns-then-at-eq0 c = none_first _ _ c.pass-stopped.ensures (omega arith)
 
 pub overflow_add-needed : goal.overflow_add-needed
-overflow_add-needed c = search needed_fits
+overflow_add-needed c = record { fits = needed_fits _ c.pass-stopped.ensures (λ none. omega arith) }
 
 pub returns-then-out-needed : goal.returns-then-out-needed
-returns-then-out-needed c = search no_room
+returns-then-out-needed c = no_room _ _ c.pass-stopped.ensures (λ none. omega arith) (omega arith)
 
 pub said-salvaged-requires : goal.said-salvaged-requires
-said-salvaged-requires c = search ended_so
+said-salvaged-requires c = ended_so _ c.pass-stopped.ensures (λ none. omega arith)
 
 pub put_result-requires : goal.put_result-requires
-put_result-requires c = (search run_fits, omega arith)
+put_result-requires c = (run_fits _ c.pass-stopped.ensures (λ none. omega arith), omega arith)
 
 pub returns : goal.returns
-returns c = search salvaged
+returns c = salvaged _ _ c.pass-stopped.ensures (λ none. omega arith) (omega arith) c.said-salvaged.ensures c.put_result.ensures

@@ -9,4 +9,4 @@ fits : (step projected : ℕ) → step < 1000 → projected ≤ 4000000000 → s
 fits step projected s p = mul-le-mul {n₂ = 1000} {m₂ = 4000000000} (omega arith) p
 
 pub overflow_mul-step : goal.overflow_mul-step
-overflow_mul-step g c = omega (arith, fits c.step_of-step.result c.args.projected (search rules) (search rules))
+overflow_mul-step c = omega (arith, fits c.step_of-step.result c.args.projected (search rules) (search rules))

@@ -3,7 +3,7 @@ use Rattle.std.proofs.Common.{length, ◌-◌, ◌≡◌}
 use Rattle.practice.proofs.output.put_line.Given as goal
 
 abbrev pub invariant-loop-i : goal.invariant-loop-i
-invariant-loop-i g l = length l.page ≡ length l.initial.page
+invariant-loop-i l = length l.page ≡ length l.initial.page
 
 abbrev pub decreases-loop-i : goal.decreases-loop-i
-decreases-loop-i g l = length l.initial.page - l.i
+decreases-loop-i l = length l.initial.page - l.i

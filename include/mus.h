@@ -24,38 +24,38 @@
  *     mus_split                 160   160                     160
  *     mus_start                  56
  *     mus_draw                  136   136                     136
- *     mus_project               496   496                     496
- *     mus_project_lines         560   560                     560
+ *     mus_project               544   544                     544
+ *     mus_project_lines         608   608                     608
  *     mus_board_draw            136   136                     136
- *     mus_board_project         480   480                     480
- *     mus_judge               1,544   1,544                 1,544
- *     mus_strata_plan        10,784   10,816               10,816
- *     mus_strata_draw        11,120   11,152               11,152
- *     mus_strata_project     12,624   12,656               12,656
+ *     mus_board_project         496   496                     496
+ *     mus_judge               1,512   1,512                 1,512
+ *     mus_strata_plan        11,520   11,552               11,552
+ *     mus_strata_draw        10,320   10,352               10,352
+ *     mus_strata_project     13,264   13,296               13,296
  *     mus_post                  104
  *     mus_post_all              144
  *     mus_team_split            184   184                     184
  *     mus_team_draw             120   120                     120
  *     mus_team_post             112
  *     mus_team_post_all         160
- *     mus_totals_build           88
+ *     mus_totals_build           96
  *     mus_totals_total           40
  *     mus_totals_find            80
  *     mus_totals_change          88
- *     mus_totals_append         104
- *     mus_totals_check          104
+ *     mus_totals_append          96
+ *     mus_totals_check          112
  *     mus_tally_none            296
- *     mus_tally_add           1,800
+ *     mus_tally_add           1,512
  *     mus_attribute_size         40
  *     mus_attribute_bound        40
- *     mus_read                  392
+ *     mus_read                  408
  *     mus_write                 176
- *     mus_salvage               296
- *     mus_sheet              35,976   35,976               35,976
+ *     mus_salvage               264
+ *     mus_sheet              36,088   36,088               36,088
  *
- * It was measured on the library as `rt lib` in crates/mus makes it (docs/PERFORMANCE.md). For every input eleven calls need more than
- * the header before this one said, as another compiler made it: mus_strata_draw, mus_post, mus_post_all, mus_team_post,
- * mus_team_post_all, mus_totals_build, mus_totals_find, mus_totals_append, mus_tally_add, mus_write and mus_salvage (docs/PORT.md). */
+ * It was measured on the library as `rt lib` in crates/mus makes it (docs/PERFORMANCE.md). For every input nine calls need more than
+ * the header before this one said: mus_project, mus_project_lines, mus_board_project, mus_strata_plan, mus_strata_project,
+ * mus_totals_build, mus_totals_check, mus_read and mus_sheet (docs/DESIGN-PASS.md). */
 #ifndef MUS_H
 #define MUS_H
 

@@ -15,8 +15,8 @@ ANTT_NAME = re.compile(rf"«[^»]*»|[^{ENDS}]+")
 ANTT_BLANK = re.compile(rf'"(?:\\.|[^"\\])*"|\{{-.*?-\}}|(?<![^{ENDS}])--[^\n]*', re.DOTALL)
 RUST_NAME = re.compile(r"[^\W\d]\w*")
 RUST_BLANK = re.compile(r"\"(?:\\.|[^\"\\])*\"|'(?:\\.|[^'\\])'|//[^\n]*|/\*.*?\*/", re.DOTALL)
-CLAUSE = re.compile(r"\b(?:ensures|requires)\b[^{};]*\{|#!?\[tactic\b")
-FIELD = re.compile(rf"([{{;]\s*)(?:«[^»]*»|[^{ENDS}]+)\s*=(?!=)")
+CLAUSE = re.compile(r"\b(?:ensures|requires)\b[^{};]*\{|\bghost\s+\w+\s*[:=]\s*\{|#!?\[tactic\b")
+FIELD = re.compile(rf"([{{;]\s*)(?:«[^»]*»|[^{ENDS}]+)\s*=(?![=>])")
 
 # A line of imports: its marks, its path, and the names in braces or the name after `as`.
 USE = re.compile(
@@ -100,7 +100,7 @@ class Source:
 
 
 def contracts_of(text):
-    """Where the contracts of an .rt file stand: from the bracket that opens a clause, or names the laws of a tactic, to its end."""
+    """Where the contracts of an .rt file stand: from the bracket that opens a clause or a ghost field, or names the laws of a tactic, to its end."""
     for found in CLAUSE.finditer(text):
         start = end = text.index("[" if text[found.start()] == "#" else "{", found.start())
         depth = 0

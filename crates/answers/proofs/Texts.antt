@@ -2,26 +2,21 @@
 use Prim.Native.Nat.{ℕ, ◌≤◌, ◌<◌}
 use mathlib.Core.Path.{◌≡◌, refl, sym, ap, ◌∙◌}
 use mathlib.Core.List.{List, [], ◌∷◌, ◌++◌}
-use borrow.Author.Tests.{lt-ltb, le-ltb, ne_eqb}
+use borrow.Author.Tests.{lt-ltb, le-ltb}
 use lib.IntN.{ℤ}
-use lib.ListN.{length, take}
-use lib.Seq.{take_all}
+use lib.ListN.{take}
 use mir.Syntax.{w64}
 use mir.Val.{SFits}
 use Rattle.signed.proofs.Signs.{held, kept}
 use Rattle.pen.specs.Letters.{letters}
 use Rattle.pen.specs.Text.{signed_text, fields}
 use Rattle.pen.specs.Page.{Wrote}
-use Rattle.pen.proofs.Writing.{nothing, as_text, after_space}
+use Rattle.pen.proofs.Writing.{as_text, after_space}
 use Rattle.answers.specs.declared.Rest.{Rest}
-use Rattle.answers.specs.declared.Rest.TheVariants.{Nothing, Net, Judged}
+use Rattle.answers.specs.declared.Rest.TheVariants.{Judged}
 use Rattle.answers.specs.Answers.{figures_text, rest_text, answer_text, verdict_text}
 
 module _ (count : ℕ) (figures : List ℕ) where
-  pub all_figures : length figures ≤ count → figures_text count figures ≡ fields figures
-  unfolding figures_text
-  all_figures h = ap fields (take_all count figures h)
-
   pub first_figures : figures_text count figures ≡ fields (take count figures)
   unfolding figures_text
   first_figures = refl
@@ -35,16 +30,8 @@ module _ (count : ℕ) (figures : List ℕ) where
     unfolding answer_text
     figures_text_lem h = rw (le-ltb 0 refusal h)
 
--- what follows the figures, by its case; a number with a sign is read back from its bits
-pub nothing_put : {o : List ℕ} {a : ℕ} {rest : Rest} → rest ≡ Nothing → Wrote o a (rest_text rest) o a
-unfolding rest_text
-nothing_put is = as_text (ap rest_text is) nothing
-
+-- what follows the figures of a judgement; a number with a sign is read back from its bits
 module _ {o o' : List ℕ} {a a' : ℕ} where
-  pub net_put : {rest : Rest} {net : ℤ} → rest ≡ Net net → SFits w64 net → Wrote o a (32 ∷ signed_text (held net)) o' a' → Wrote o a (rest_text rest) o' a'
-  unfolding rest_text
-  net_put is fits told = as_text (ap rest_text is ∙ ap (λ (e : ℤ). 32 ∷ signed_text e) (sym (kept _ fits.sfits))) told
-
   pub judged_put : {rest : Rest} {net : ℤ} {precision limit verdict : ℕ} → rest ≡ Judged net precision limit verdict → SFits w64 net
       → Wrote o a ((32 ∷ signed_text (held net)) ++ fields (precision ∷ limit ∷ []) ++ verdict_text verdict) o' a' → Wrote o a (rest_text rest) o' a'
   unfolding rest_text
@@ -56,19 +43,3 @@ module _ {o o' : List ℕ} {a a' : ℕ} where
 pub net_laid : {o o' o'' : List ℕ} {a a' a'' : ℕ} (net : ℤ) → SFits w64 net → Wrote o a (32 ∷ []) o' a' → Wrote o' a' (signed_text (held net)) o'' a''
     → Wrote o a (32 ∷ signed_text net) o'' a''
 net_laid net fits parted told = after_space parted (as_text (ap signed_text (sym (kept net fits.sfits))) told)
-
-pub below : (verdict : ℕ) → verdict ≡ 1 → verdict_text verdict ≡ letters " below"
-unfolding verdict_text
-below verdict h = rw h
-
-pub inconclusive : (verdict : ℕ) → verdict ≡ 2 → verdict_text verdict ≡ letters " inconclusive"
-unfolding verdict_text
-inconclusive verdict h = rw h
-
-pub above : (verdict : ℕ) → verdict ≡ 3 → verdict_text verdict ≡ letters " above"
-unfolding verdict_text
-above verdict h = rw h
-
-pub no_word : (verdict : ℕ) → (verdict ≡ 1 → ⊥) → (verdict ≡ 2 → ⊥) → (verdict ≡ 3 → ⊥) → verdict_text verdict ≡ []
-unfolding verdict_text
-no_word verdict a b d = rw (ne_eqb verdict 1 a, ne_eqb verdict 2 b, ne_eqb verdict 3 d)

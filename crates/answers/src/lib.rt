@@ -29,16 +29,15 @@ pub struct Answer {
 }
 
 // The first figures, each after a space.
+#[tactic(auto, using(crate::proofs::Texts::first_figures), unfolding(crate::specs::Answers::figures_text))]
 fn put_figures(pen: Pen, page: &mut [u8], figures: [u64; 5], count: usize) -> Pen
     ensures { Wrote page.old pen.at (figures_text count figures) page.new result.at }
 {
-    if count < 5 {
-        return pen.fields(page, &figures[..count]);
-    }
-    pen.fields(page, &figures)
+    pen.fields(page, &figures[..count.min(5)])
 }
 
 // The word of a verdict by its number; 0 has none.
+#[tactic(auto, using(pen::proofs::Writing::nothing), unfolding(crate::specs::Answers::verdict_text))]
 fn put_verdict(pen: Pen, page: &mut [u8], verdict: u64) -> Pen
     ensures { Wrote page.old pen.at (verdict_text verdict) page.new result.at }
 {
@@ -51,14 +50,15 @@ fn put_verdict(pen: Pen, page: &mut [u8], verdict: u64) -> Pen
 }
 
 // The net after a space, with its sign.
+#[tactic(auto, using(pen::proofs::Writing::after_space))]
 fn put_net(pen: Pen, page: &mut [u8], net: i64) -> Pen
     ensures { Wrote page.old pen.at (32 ∷ signed_text net) page.new result.at }
 {
-    let parted = pen.byte(page, 32);
-    parted.signed(page, net)
+    pen.byte(page, b' ').signed(page, net)
 }
 
 // What follows the first figures.
+#[tactic(auto, using(pen::proofs::Writing::nothing), unfolding(crate::specs::Answers::rest_text))]
 fn put_rest(pen: Pen, page: &mut [u8], rest: Rest) -> Pen
     ensures { Wrote page.old pen.at (rest_text rest) page.new result.at }
 {
@@ -66,31 +66,28 @@ fn put_rest(pen: Pen, page: &mut [u8], rest: Rest) -> Pen
         Rest::Nothing => pen,
         Rest::Net(net) => put_net(pen, page, net),
         Rest::Judged(net, precision, limit, verdict) => {
-            let told = put_net(pen, page, net);
-            let limited = told.fields(page, &[precision, limit]);
+            let limited = put_net(pen, page, net).fields(page, &[precision, limit]);
             put_verdict(limited, page, verdict)
         }
     }
 }
 
 // The figures with what follows them, or the refusal.
+#[tactic(auto, unfolding(crate::specs::Answers::answer_text))]
 pub fn put(pen: Pen, page: &mut [u8], answer: Answer) -> Pen
     ensures { Wrote page.old pen.at (answer_text answer.refusal answer.place answer.count answer.figures answer.rest) page.new result.at }
 {
-    let refusal = answer.refusal;
-    let place = answer.place;
-    if refusal > 0 {
-        let refused = pen.text(page, b" refused");
-        return refused.fields(page, &[refusal, place]);
+    if answer.refusal > 0 {
+        return pen
+            .text(page, b" refused")
+            .fields(page, &[answer.refusal, answer.place]);
     }
-    let figures = answer.figures;
-    let rest = answer.rest;
-    let told = put_figures(pen, page, figures, answer.count);
-    put_rest(told, page, rest)
+    let told = put_figures(pen, page, answer.figures, answer.count);
+    put_rest(told, page, answer.rest)
 }
 
 // Ends the line of a page and writes it to standard output.
 pub fn write_line(rt: &impl Print, page: &mut [u8], pen: Pen) -> io::Result<()> {
-    let ended = pen.byte(page, 10);
+    let ended = pen.byte(page, b'\n');
     rt.write_all(parts::front(page, ended.at))
 }

@@ -9,16 +9,12 @@ use Rattle.terms.specs.Outcome.{accepted, refused, refused_by, after}
 use Rattle.terms.specs.declared.Refusal.{Refusal}
 use Rattle.terms.proofs.Outcomes.{Gives, among, gives_after, gives_among}
 use Rattle.terms.proofs.Tests.{by_test}
-use Rattle.attributes.specs.declared.PlaceAnswer.{PlaceAnswer}
 use Rattle.attributes.specs.Table.{levels, tolerances, sizes, bounds}
-use Rattle.attributes.specs.Attributes.{place_says, place_from, level_place, tolerance_place, entry_place, items_of, bound_at, bound_of}
+use Rattle.attributes.specs.Attributes.{place_from, level_place, tolerance_place, entry_place, items_of, bound_at, bound_of}
 use Rattle.attributes.proofs.Places.{entry_at}
 
 -- no place: its refusal is the answer of either table
-module _ (level tolerance : ℕ) {answer : PlaceAnswer} {why : Refusal} (says : place_says answer ≡ entry_place level tolerance) (is : answer ≡ PlaceAnswer.Refused why) where
-  lacking : refused_by why ≡ entry_place level tolerance
-  lacking = sym (ap place_says is) ∙ says
-
+module _ (level tolerance : ℕ) (why : Refusal) (lacking : refused_by why ≡ entry_place level tolerance) where
   pub items_lacking : refused_by why ≡ items_of level tolerance
   unfolding items_of
   items_lacking = ap (after (λ place. accepted (get_or sizes place 0))) lacking
@@ -27,25 +23,22 @@ module _ (level tolerance : ℕ) {answer : PlaceAnswer} {why : Refusal} (says : 
   unfolding bound_of
   bound_lacking exceptions = ap (after (bound_at exceptions)) lacking
 
--- a place, as it is known where one was found
-pub record Placed (level tolerance place : ℕ) : Type 0 where
-  pub found : accepted place ≡ entry_place level tolerance
-
-module _ {level tolerance place : ℕ} (p : Placed level tolerance place) where
+-- a place, where one was found
+module _ (level tolerance place : ℕ) (found : accepted place ≡ entry_place level tolerance) where
   pub place_fits : place < 15
-  place_fits = (entry_at level tolerance place (sym p.found)).among
+  place_fits = (entry_at level tolerance place (sym found)).among
 
   pub items_read : {entry : ℕ} → entry ≡ get_or sizes place 0 → accepted entry ≡ items_of level tolerance
   unfolding items_of
-  items_read is = ap accepted is ∙ ap (after (λ at. accepted (get_or sizes at 0))) p.found
+  items_read is = ap accepted is ∙ ap (after (λ at. accepted (get_or sizes at 0))) found
 
   pub too_many : {exceptions : ℕ} → 10 < exceptions → refused 26 0 ≡ bound_of level tolerance exceptions
   unfolding bound_of bound_at
-  too_many {exceptions} many = sym (simp (lt-ltb 10 exceptions many)) ∙ ap (after (bound_at exceptions)) p.found
+  too_many {exceptions} many = sym (simp (lt-ltb 10 exceptions many)) ∙ ap (after (bound_at exceptions)) found
 
   pub bound_read : {exceptions entry : ℕ} → exceptions ≤ 10 → entry ≡ get_or bounds (place * 11 + exceptions) 0 → accepted entry ≡ bound_of level tolerance exceptions
   unfolding bound_of bound_at
-  bound_read {exceptions} few is = ap accepted is ∙ sym (simp (le-ltb 10 exceptions few)) ∙ ap (after (bound_at exceptions)) p.found
+  bound_read {exceptions} few is = ap accepted is ∙ sym (simp (le-ltb 10 exceptions few)) ∙ ap (after (bound_at exceptions)) found
 
 -- The order: 1 whatever else is asked, then 25 whatever the exceptions are; 26 is `too_many`.
 module _ (level tolerance exceptions : ℕ) {n p : ℕ} where

@@ -8,13 +8,11 @@ use lib.Dec.{eqb}
 use lib.ListN.{length, get_or}
 use borrow.Author.Tests.{eqb-true, ne_eqb}
 use Rattle.terms.specs.Numbers.{AllUpTo}
-use Rattle.terms.specs.Outcome.{accepted, refused, refused_by, after}
-use Rattle.terms.specs.declared.Refusal.{Refusal}
+use Rattle.terms.specs.Outcome.{accepted, refused, after}
 use Rattle.terms.proofs.Tests.{by_test}
 use Rattle.terms.proofs.Outcomes.{never, after_accepted}
-use Rattle.attributes.specs.declared.PlaceAnswer.{PlaceAnswer}
 use Rattle.attributes.specs.Table.{levels, tolerances, sizes}
-use Rattle.attributes.specs.Attributes.{place_says, place_from, level_place, tolerance_place, entry_place, items_of, bound_at, bound_of}
+use Rattle.attributes.specs.Attributes.{place_from, level_place, tolerance_place, entry_place, items_of, bound_at, bound_of}
 
 -- a number is in the list, and has place i where the first place is counted as `from`
 record Found (xs : List ℕ) (v from i : ℕ) : Type 0 where
@@ -49,51 +47,12 @@ tolerance_stands : (tolerance i : ℕ) → tolerance_place tolerance ≡ accepte
 unfolding tolerance_place tolerances
 tolerance_stands tolerance i told = in_list 25 tolerances tolerance i told
 
--- the lists number by number, as a match reads them
-pub levels_placed : (level_place 90 ≡ accepted 0) × (level_place 95 ≡ accepted 1) × (level_place 99 ≡ accepted 2)
-unfolding level_place place_from levels
-levels_placed = (refl, refl, refl)
+-- so a column is one of three, and a row one of five
+pub column_fits : (level column : ℕ) → accepted column ≡ level_place level → column < 3
+column_fits level column told = (level_stands level column (sym told)).0
 
-pub no_level : (level : ℕ) → (level ≡ 90 → ⊥) → (level ≡ 95 → ⊥) → (level ≡ 99 → ⊥) → level_place level ≡ refused 1 0
-unfolding level_place place_from levels
-no_level level a b c = simp (ne_eqb level 90 a, ne_eqb level 95 b, ne_eqb level 99 c)
-
-pub tolerances_placed :
-    (tolerance_place 1 ≡ accepted 0) × (tolerance_place 3 ≡ accepted 1) × (tolerance_place 5 ≡ accepted 2) × (tolerance_place 7 ≡ accepted 3) × (tolerance_place 10 ≡ accepted 4)
-unfolding tolerance_place place_from tolerances
-tolerances_placed = (refl, refl, refl, refl, refl)
-
-pub no_tolerance : (tolerance : ℕ) → (tolerance ≡ 1 → ⊥) → (tolerance ≡ 3 → ⊥) → (tolerance ≡ 5 → ⊥) → (tolerance ≡ 7 → ⊥) → (tolerance ≡ 10 → ⊥) → tolerance_place tolerance ≡ refused 25 0
-unfolding tolerance_place place_from tolerances
-no_tolerance tolerance a b c d e = simp (ne_eqb tolerance 1 a, ne_eqb tolerance 3 b, ne_eqb tolerance 5 c, ne_eqb tolerance 7 d, ne_eqb tolerance 10 e)
-
--- column and row, as they are known where both were found
-pub record InTable (level tolerance column row : ℕ) : Type 0 where
-  pub across : accepted column ≡ level_place level
-  pub down : accepted row ≡ tolerance_place tolerance
-
-module _ {level tolerance column row : ℕ} (t : InTable level tolerance column row) where
-  pub column_fits : column < 3
-  column_fits = (level_stands level column (sym t.across)).0
-
-  pub row_fits : row < 5
-  row_fits = (tolerance_stands tolerance row (sym t.down)).0
-
-  pub both_found : accepted (row * 3 + column) ≡ entry_place level tolerance
-  unfolding entry_place
-  both_found = λ i. after (λ (c : ℕ). after (λ (r : ℕ). accepted (r * 3 + c)) (t.down i)) (t.across i)
-
--- and where one is lacking: the level first
-pub level_lacking : (level tolerance : ℕ) {answer : PlaceAnswer} {why : Refusal} → place_says answer ≡ level_place level → answer ≡ PlaceAnswer.Refused why → refused_by why ≡ entry_place level tolerance
-unfolding entry_place
-level_lacking level tolerance says is = ap (after (λ column. after (λ row. accepted (row * 3 + column)) (tolerance_place tolerance))) (sym (ap place_says is) ∙ says)
-
-pub tolerance_lacking : (level tolerance column : ℕ) {answer : PlaceAnswer} {why : Refusal} → accepted column ≡ level_place level → place_says answer ≡ tolerance_place tolerance
-    → answer ≡ PlaceAnswer.Refused why → refused_by why ≡ entry_place level tolerance
-unfolding entry_place
-tolerance_lacking level tolerance column {answer} {why} across says is =
-    let lacking : refused_by why ≡ tolerance_place tolerance = sym (ap place_says is) ∙ says in
-    λ i. after (λ (c : ℕ). after (λ (r : ℕ). accepted (r * 3 + c)) (lacking i)) (across i)
+pub row_fits : (tolerance row : ℕ) → accepted row ≡ tolerance_place tolerance → row < 5
+row_fits tolerance row told = (tolerance_stands tolerance row (sym told)).0
 
 -- an entry of table 1: which level and which tolerance it is for
 pub record Entry (level tolerance place : ℕ) : Type 0 where

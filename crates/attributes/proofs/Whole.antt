@@ -1,19 +1,20 @@
 -- Every entry of both tables is the least by the rule: one test, computed over all 180, and one lemma that reads it at an entry. Assumes nothing.
 use mathlib.Core.Path.{◌≡◌, sym, ap, ◌∙◌, subst, subst₂}
+use Rattle.terms.specs.declared.Refusal.{Refusal}
+use Rattle.std.specs.Prelude.{Result}
 use mathlib.Core.Bool.{Bool}
 use Prim.Native.Nat.{ℕ, ◌+◌, ◌-◌, ◌*◌, ◌/◌, ◌%◌, ◌≤◌}
 use native.Mathlib.Omega.{arith}
 use lib.Dec.{T, leb, leb→le, ltb}
 use lib.ListN.{get_or}
 use borrow.Author.Tests.{ltb-false}
-use Rattle.terms.specs.Outcome.{accepted, after}
+use Rattle.terms.specs.Outcome.{accepted, after, says}
 use Rattle.terms.proofs.Every.{both, both_left, both_right, below, below_at}
 use Rattle.terms.proofs.Tests.{by_test}
 use Rattle.terms.proofs.Outcomes.{never, after_accepted}
 use Rattle.attributes.specs.Rule.{Unlikely, Enough, Least}
 use Rattle.attributes.specs.Table.{levels, tolerances, sizes, bounds}
-use Rattle.attributes.specs.declared.{ItemsAnswer.ItemsAnswer, BoundAnswer.BoundAnswer}
-use Rattle.attributes.specs.Attributes.{entry_place, items_of, items_says, ItemsPromise, bound_at, bound_of, bound_says, BoundRule, BoundPromise}
+use Rattle.attributes.specs.Attributes.{entry_place, items_of, ItemsPromise, bound_at, bound_of, BoundRule, BoundPromise}
 use Rattle.attributes.proofs.Falling.{share_raised, sample_raised}
 use Rattle.attributes.proofs.Computing.{product, summed, unlikely, passes, does_not, size_rule}
 use Rattle.attributes.proofs.Least.{edge, least_at}
@@ -101,8 +102,8 @@ bound_by_rule level tolerance exceptions h told =
     }
 
 -- the answer's equation is the whole promise
-pub items_promised : {level tolerance : ℕ} {r : ItemsAnswer} → items_says r ≡ items_of level tolerance → ItemsPromise level tolerance r
+pub items_promised : {level tolerance : ℕ} {r : Result ℕ Refusal} → says r ≡ items_of level tolerance → ItemsPromise level tolerance r
 items_promised {level} {tolerance} e = record { answer = e; rule = λ items told. items_by_rule level tolerance items (sym e ∙ told) }
 
-pub bound_promised : {level tolerance exceptions : ℕ} {r : BoundAnswer} → bound_says r ≡ bound_of level tolerance exceptions → BoundPromise level tolerance exceptions r
+pub bound_promised : {level tolerance exceptions : ℕ} {r : Result ℕ Refusal} → says r ≡ bound_of level tolerance exceptions → BoundPromise level tolerance exceptions r
 bound_promised {level} {tolerance} {exceptions} e = record { answer = e; rule = λ h told. bound_by_rule level tolerance exceptions h (sym e ∙ told) }

@@ -1,8 +1,8 @@
 -- The attribute job aid of document 000: sample size and upper bound, in the order of K10's refusals: 1, 25, 26. Definitions: nothing is assumed.
-use Rattle.std.specs.Prelude.{◌≡◌, List, [], ◌∷◌, ℕ, suc, ◌+◌, ◌*◌, eqb, ltb, get_or}
-use Rattle.terms.specs.Outcome.{Outcome, accepted, refused, refused_by, after}
+use Rattle.std.specs.Prelude.{◌≡◌, List, [], ◌∷◌, ℕ, suc, ◌+◌, ◌*◌, eqb, ltb, get_or, Result}
+use Rattle.terms.specs.declared.Refusal.{Refusal}
+use Rattle.terms.specs.Outcome.{Outcome, accepted, refused, after, says}
 use Rattle.terms.specs.Numbers.{pick}
-use Rattle.attributes.specs.declared.{PlaceAnswer.PlaceAnswer, ItemsAnswer.ItemsAnswer, BoundAnswer.BoundAnswer}
 use Rattle.attributes.specs.Rule.{Unlikely, Enough, Least}
 use Rattle.attributes.specs.Table.{levels, tolerances, sizes, bounds}
 
@@ -34,23 +34,10 @@ bound_at exceptions place = pick (ltb 10 exceptions) (refused 26 0) (accepted (g
 unfoldable pub bound_of : ℕ → ℕ → ℕ → Outcome ℕ
 bound_of level tolerance exceptions = after (bound_at exceptions) (entry_place level tolerance)
 
--- each answer as an outcome
-abbrev pub place_says : PlaceAnswer → Outcome ℕ
-place_says (PlaceAnswer.At place) = accepted place
-place_says (PlaceAnswer.Refused why) = refused_by why
-
-abbrev pub items_says : ItemsAnswer → Outcome ℕ
-items_says (ItemsAnswer.Items items) = accepted items
-items_says (ItemsAnswer.Refused why) = refused_by why
-
-abbrev pub bound_says : BoundAnswer → Outcome ℕ
-bound_says (BoundAnswer.Hundredths hundredths) = accepted hundredths
-bound_says (BoundAnswer.Refused why) = refused_by why
-
 -- what `size` promises: the entry of the table, and that no smaller number of items is enough
-pub record ItemsPromise (level tolerance : ℕ) (r : ItemsAnswer) : Type 0 where
-  pub answer : items_says r ≡ items_of level tolerance
-  pub rule : (items : ℕ) → items_says r ≡ accepted items → Least (Enough level tolerance) items
+pub record ItemsPromise (level tolerance : ℕ) (r : Result ℕ Refusal) : Type 0 where
+  pub answer : says r ≡ items_of level tolerance
+  pub rule : (items : ℕ) → says r ≡ accepted items → Least (Enough level tolerance) items
 
 -- the upper bound by the rule: the least share in hundredths of a percent, for a sample of the size that level and tolerance have
 pub record BoundRule (level tolerance exceptions hundredths : ℕ) : Type 0 where
@@ -59,6 +46,6 @@ pub record BoundRule (level tolerance exceptions hundredths : ℕ) : Type 0 wher
   pub least : Least (Unlikely 10000 level items exceptions) hundredths
 
 -- what `bound` promises: the entry of the table, and that it is the bound by the rule
-pub record BoundPromise (level tolerance exceptions : ℕ) (r : BoundAnswer) : Type 0 where
-  pub answer : bound_says r ≡ bound_of level tolerance exceptions
-  pub rule : (hundredths : ℕ) → bound_says r ≡ accepted hundredths → BoundRule level tolerance exceptions hundredths
+pub record BoundPromise (level tolerance exceptions : ℕ) (r : Result ℕ Refusal) : Type 0 where
+  pub answer : says r ≡ bound_of level tolerance exceptions
+  pub rule : (hundredths : ℕ) → says r ≡ accepted hundredths → BoundRule level tolerance exceptions hundredths

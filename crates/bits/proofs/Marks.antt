@@ -9,22 +9,6 @@ use Rattle.bits.specs.declared.Bits.{Bits}
 use Rattle.bits.specs.declared.Bits.TheVariants.{All, Low, High}
 use Rattle.bits.specs.Own.{own_of, with_own, bit, owns}
 
--- the own bits of a mark, as `own` meets them
-module _ {bits : Bits} (mark : ℕ) where
-  pub own_low : bits ≡ Low → mark % 4 ≡ own_of bits mark
-  own_low is = sym (ap (λ (b : Bits). own_of b mark) is)
-
-  pub own_high : bits ≡ High → mark / 4 % 4 ≡ own_of bits mark
-  own_high is = sym (ap (λ (b : Bits). own_of b mark) is)
-
--- a mark with new own bits, as `with_own` meets it
-module _ {bits : Bits} (mark new : ℕ) where
-  pub with_low : bits ≡ Low → mark / 4 * 4 + new ≡ with_own bits mark new
-  with_low is = sym (ap (λ (b : Bits). with_own b mark new) is)
-
-  pub with_high : bits ≡ High → mark / 16 * 16 + new * 4 + mark % 4 ≡ with_own bits mark new
-  with_high is = sym (ap (λ (b : Bits). with_own b mark new) is)
-
 -- a mark without a bit has no own bits
 pub own_none : (bits : Bits) → own_of bits 0 ≡ 0
 own_none All = refl

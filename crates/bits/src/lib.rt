@@ -12,25 +12,27 @@ pub enum Bits {
     High,
 }
 
-// The own bits of a mark, as a number.
-pub fn own(bits: Bits, mark: u8) -> u8
-    ensures { result ≡ own_of bits mark }
-{
-    match bits {
-        Bits::All => mark,
-        Bits::Low => mark % 4,
-        Bits::High => mark / 4 % 4,
+impl Bits {
+    // The own bits of a mark, as a number.
+    pub fn own(self, mark: u8) -> u8
+        ensures { result ≡ own_of self mark }
+    {
+        match self {
+            Bits::All => mark,
+            Bits::Low => mark % 4,
+            Bits::High => mark / 4 % 4,
+        }
     }
-}
 
-// A mark with new own bits, the others as they were.
-pub fn with_own(bits: Bits, mark: u8, new: u8) -> u8
-    requires { new < 4 }
-    ensures { result ≡ with_own bits mark new }
-{
-    match bits {
-        Bits::All => new,
-        Bits::Low => mark / 4 * 4 + new,
-        Bits::High => mark / 16 * 16 + new * 4 + mark % 4,
+    // A mark with new own bits, the others as they were.
+    pub fn with_own(self, mark: u8, new: u8) -> u8
+        requires { new < 4 }
+        ensures { result ≡ with_own self mark new }
+    {
+        match self {
+            Bits::All => new,
+            Bits::Low => mark / 4 * 4 + new,
+            Bits::High => mark / 16 * 16 + new * 4 + mark % 4,
+        }
     }
 }

@@ -13,18 +13,17 @@ use lib.Signed.{mag}
 use lib.ListN.{length, get_or, drop, drop_of_length-le}
 use lib.Seq.{drop-cons, get_or-drop, drop-drop}
 use Rattle.terms.specs.declared.Refusal.{Refusal}
-use Rattle.terms.specs.Outcome.{accepted, refused_by, after}
+use Rattle.terms.specs.Outcome.{Outcome, accepted, refused_by, after}
 use Rattle.terms.specs.Numbers.{pick, sum}
 use Rattle.terms.proofs.Outcomes.{never}
 use Rattle.terms.proofs.Tests.{by_test}
 use Rattle.signed.specs.Errors.{overstated, understated, size_of, most_size}
 use Rattle.signed.proofs.Laws.{size_adds}
 use Rattle.signed.proofs.Signs.{held, kept}
-use Rattle.blackboard.specs.declared.{BoardSums.BoardSums, BoardKinds.BoardKinds, BoardProjection.BoardProjection, AddAnswer.AddAnswer, Walker.Walker}
-use Rattle.blackboard.specs.declared.AddAnswer.TheVariants.{Added, Refused}
-use Rattle.blackboard.specs.Board.{board_marks, stop_at}
+use Rattle.blackboard.specs.declared.{BoardSums.BoardSums, BoardKinds.BoardKinds, BoardProjection.BoardProjection, Walker.Walker}
+use Rattle.blackboard.specs.Board.{board_marks}
 use Rattle.blackboard.specs.Project.{with_line, both_with, line_added, added_from, no_sums, no_kinds, board_projection_of, board_projection_at}
-use Rattle.blackboard.specs.Steps.{add_says, ToAdd, mark_where, walker_after, SumRoom, KindsRoom, SmallSums}
+use Rattle.blackboard.specs.Steps.{ToAdd, mark_where, walker_at, walker_after, SumRoom, KindsRoom, SmallSums}
 use Rattle.blackboard.proofs.Standing.{Standing, standing_first, standing_mark, standing_drawn, standing_on, point_on}
 use Rattle.blackboard.proofs.OneLine.{amount_most}
 
@@ -78,17 +77,17 @@ pub record Adding (J start : ℕ) (ledger : List ℕ) (errors : List ℤ) (kinds
 none_so_far : (ledger : List ℕ) (point : ℕ) → KindSoFar ledger no_sums point 0
 none_so_far ledger point = record { full = omega arith; sampled = zero-le; m = zero-le }
 
-pub adding_none : {J start : ℕ} {ledger : List ℕ} {errors : List ℤ} {first : ℕ} → ToAdd J start ledger errors → first ≡ stop_at J ledger start →
-    Adding J start ledger errors no_kinds (record { point = start; stop = first }) 0
+pub adding_none : {J start : ℕ} {ledger : List ℕ} {errors : List ℤ} {at : Walker} → ToAdd J start ledger errors → at ≡ walker_at J ledger start →
+    Adding J start ledger errors no_kinds at 0
 unfolding board_projection_at
-adding_none {J} {start} {ledger} {errors} {first} given e =
+adding_none {J} {start} {ledger} {errors} {at} given e =
     record {
       given = given;
       inside = zero-le;
       whole = refl;
-      over = none_so_far ledger start;
-      under = none_so_far ledger start;
-      stands = standing_first J start ledger first given.board given.early e;
+      over = none_so_far ledger at.point;
+      under = none_so_far ledger at.point;
+      stands = standing_first J start ledger at given.board given.early e;
     }
 
 module _ {J start : ℕ} {ledger : List ℕ} {errors : List ℤ} {kinds : BoardKinds} {at : Walker} {line : ℕ} (by : Adding J start ledger errors kinds at line) where
@@ -143,16 +142,16 @@ module _ {J start : ℕ} {ledger : List ℕ} {errors : List ℤ} {kinds : BoardK
     kind_on k g h = record { full = omega (arith, g.full, k.full, tail); sampled = omega (arith, g.sampled, k.sampled); m = omega (arith, g.m, k.m) }
 
     -- the error is read from its bits
-    module _ (r : AddAnswer) (fits : mag error < 2 ^ 63) (promised : add_says r ≡ line_added J line kinds mark value (held error)) where
-      own : add_says r ≡ line_added J line kinds mark value error
-      own = promised ∙ ap (line_added J line kinds mark value) (kept error fits)
+    module _ (fits : mag error < 2 ^ 63) where
+      own : {o : Outcome BoardKinds} → o ≡ line_added J line kinds mark value (held error) → o ≡ line_added J line kinds mark value error
+      own promised = promised ∙ ap (line_added J line kinds mark value) (kept error fits)
 
-      pub adding_refused : {why : Refusal} → r ≡ Refused why → refused_by why ≡ board_projection_at J start ledger errors
-      adding_refused is = let e = sym (ap add_says is) ∙ own in sym (on ∙ rw (← e))
+      pub adding_refused : (why : Refusal) → refused_by why ≡ line_added J line kinds mark value (held error) → refused_by why ≡ board_projection_at J start ledger errors
+      adding_refused why promised = sym (on ∙ rw (← own promised))
 
-      pub adding_on : {next : BoardKinds} {at' : Walker} → r ≡ Added next → at' ≡ walker_after J ledger at line → Adding J start ledger errors next at' (line + 1)
-      adding_on {next} {at'} is went =
-          let e : accepted next ≡ line_added J line kinds mark value error = sym (ap add_says is) ∙ own in
+      pub adding_on : {next : BoardKinds} {at' : Walker} → accepted next ≡ line_added J line kinds mark value (held error) → at' ≡ walker_after J ledger at line → Adding J start ledger errors next at' (line + 1)
+      adding_on {next} {at'} promised went =
+          let e : accepted next ≡ line_added J line kinds mark value error = own promised in
           let l = line_in J line kinds mark value error next (sym e) in
           let moved : at.point + pick (eqb mark 1) J 0 ≤ at'.point = rw (went, marked) (point_on J value ledger at line) in
           let over_small : overstated error ≤ value = omega (arith, size_adds error, l.small) in

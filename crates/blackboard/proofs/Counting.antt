@@ -23,12 +23,6 @@ module _ (J v : ℕ) where
   counts_interval : counts_for J v ≤ J
   counts_interval = by_test (λ c. c ≤ J) (ltb J v) (λ t. zero-le) (λ t. ltb-false J v t)
 
-  pub counts_none : J < v → 0 ≡ counts_for J v
-  counts_none h = sym (simp (lt-ltb _ _ h))
-
-  pub counts_all : v ≤ J → v ≡ counts_for J v
-  counts_all h = sym (simp (le-ltb _ _ h))
-
   -- one that counts for something is not full
   pub counts_some : 0 < counts_for J v → (0 < v) × (v ≤ J)
   counts_some = by_test (λ c. 0 < c → (0 < v) × (v ≤ J)) (ltb J v) (λ t h. absurd (not-suc-le-zero h)) (λ t h. (h, ltb-false J v t))

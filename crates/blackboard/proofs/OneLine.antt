@@ -1,23 +1,23 @@
 -- One line, by its mark: what it gives to the sums of a kind, its refusals by the size of its error, and the answer from both kinds. Assumes nothing.
-use Prim.Native.Nat.{ℕ, ◌+◌, ◌*◌, ◌^◌, ◌≤◌, ◌<◌}
-use native.Mathlib.Nat.{mul-le-mul_right, mul_comm, add-zero}
+use Prim.Native.Nat.{ℕ, ◌+◌, ◌*◌, ◌≤◌, ◌<◌}
+use native.Mathlib.Nat.{mul-le-mul_right, mul_comm}
 use native.Mathlib.Omega.{arith}
 use mathlib.Core.Path.{◌≡◌, sym, ap, ◌∙◌}
 use mathlib.Core.Bool.{true, false}
 use borrow.Author.Tests.{lt-ltb, le-ltb, eq-eqb, ne_eqb}
-use lib.Dec.{ltb}
-use lib.IntN.{ℤ, pos, ◌-ℤ◌}
-use lib.Signed.{mag}
+use mathlib.Core.Logic.{◌⊎◌, inl, inr}
+use lib.Dec.{ltb, eqb}
+use lib.IntN.{ℤ}
 use mir.Syntax.{w64}
 use mir.Val.{SFits, Fits}
 use Rattle.terms.specs.Outcome.{accepted, refused}
-use Rattle.terms.specs.Numbers.{div_up}
+use Rattle.terms.specs.Numbers.{pick, div_up}
 use Rattle.terms.proofs.Rounding.{div_up_least}
 use Rattle.signed.specs.Errors.{overstated, understated, size_of}
 use Rattle.signed.proofs.Laws.{size_adds, most_size_lem}
 use Rattle.signed.proofs.Signs.{held, kept, size_read}
-use Rattle.blackboard.specs.declared.{BoardSums.BoardSums, BoardKinds.BoardKinds, BoardProjection.BoardProjection}
-use Rattle.blackboard.specs.Project.{board_amount, with_line, line_added, board_projection_of}
+use Rattle.blackboard.specs.declared.{BoardSums.BoardSums, BoardKinds.BoardKinds}
+use Rattle.blackboard.specs.Project.{board_amount, with_line, line_added}
 use Rattle.blackboard.specs.Steps.{SmallSums}
 
 -- an amount is never above the interval
@@ -31,22 +31,6 @@ unfolding board_amount
 is_amount J v e r some h told =
     let is = told ∙ ap (λ (x : ℕ). div_up x v) (mul_comm J e) in
     (is, omega (arith, is, amount_most J v e some h))
-
--- what one line gives to the sums of a kind, by its mark, as `with_line` meets it
-module _ (J : ℕ) (sums : BoardSums) (mark v e : ℕ) where
-  pub gives_error : mark ≡ 2 → ◌≡◌ {A = BoardSums} (record { full = sums.full + e; sampled = sums.sampled; m = sums.m }) (with_line J sums mark v e)
-  gives_error two = simp (eq-eqb _ _ two)
-
-  module _ (not-two : mark ≡ 2 → ⊥) where
-    module _ (one : mark ≡ 1) (amount : ℕ) (is : amount ≡ board_amount J v e) where
-      pub gives_amount : 0 < e → ◌≡◌ {A = BoardSums} (record { full = sums.full; sampled = sums.sampled + amount; m = sums.m + 1 }) (with_line J sums mark v e)
-      gives_amount h = simp (ne_eqb _ _ not-two, eq-eqb _ _ one, lt-ltb _ _ h, is)
-
-      pub gives_no_count : e ≤ 0 → ◌≡◌ {A = BoardSums} (record { full = sums.full; sampled = sums.sampled + amount; m = sums.m }) (with_line J sums mark v e)
-      gives_no_count h = simp (ne_eqb _ _ not-two, eq-eqb _ _ one, le-ltb _ _ h, is, add-zero)
-
-    pub gives_nothing : (mark ≡ 1 → ⊥) → sums ≡ with_line J sums mark v e
-    gives_nothing not-one = simp (ne_eqb _ _ not-two, ne_eqb _ _ not-one)
 
 -- one line of both kinds, as `add_line` meets it
 module _ (J item : ℕ) (kinds : BoardKinds) (mark v : ℕ) (e : ℤ) (fits : SFits w64 e) (size : ℕ) (told : size ≡ size_of (held e)) where
@@ -69,36 +53,25 @@ module _ (J item : ℕ) (kinds : BoardKinds) (mark v : ℕ) (e : ℤ) (fits : SF
         let t : ltb 0 (size_of e) ≡ true = lt-ltb 0 (size_of e) (omega (arith, is_size)) in
         sym (simp (within, eq-eqb mark 0 z, t))
 
-    pub line_empty : mark ≡ 0 → size ≤ 0 → accepted kinds ≡ line_added J item kinds mark v e
-    unfolding line_added
-    line_empty z h =
-        let t : ltb 0 (size_of e) ≡ false = le-ltb 0 (size_of e) (omega (arith, is_size)) in
-        let one : mark ≡ 1 → ⊥ = λ q. omega arith in
-        let two : mark ≡ 2 → ⊥ = λ q. omega arith in
-        sym (simp (within, eq-eqb mark 0 z, t, ne_eqb mark 1 one, ne_eqb mark 2 two))
-
     pub over_within : {o : ℕ} → o ≡ overstated (held e) → o ≤ v
     over_within is = omega (arith, is_size, size_adds e, is ∙ ap overstated (kept e fits.sfits))
 
     pub under_within : {o : ℕ} → o ≡ understated (held e) → o ≤ v
     under_within is = omega (arith, is_size, size_adds e, is ∙ ap understated (kept e fits.sfits))
 
-    pub line_marked : (mark ≡ 0 → ⊥) → {o u : ℕ} {over under : BoardSums} → o ≡ overstated (held e) → u ≡ understated (held e) →
+    clear : ((mark ≡ 0) × (size ≤ 0)) ⊎ (mark ≡ 0 → ⊥) → pick (eqb mark 0) (ltb 0 (size_of e)) false ≡ false
+    clear (inl h) = let t : ltb 0 (size_of e) ≡ false = le-ltb 0 (size_of e) (omega (arith, is_size, h.1)) in rw (eq-eqb mark 0 h.0, t)
+    clear (inr z) = rw (ne_eqb mark 0 z)
+
+    pub line_marked : ((mark ≡ 0) × (size ≤ 0)) ⊎ (mark ≡ 0 → ⊥) → {o u : ℕ} {over under : BoardSums} → o ≡ overstated (held e) → u ≡ understated (held e) →
         over ≡ with_line J kinds.over mark v o → under ≡ with_line J kinds.under mark v u →
         accepted (record { over = over; under = under }) ≡ line_added J item kinds mark v e
     unfolding line_added
     line_marked z {o} {u} os us is-over is-under =
         let a = is-over ∙ ap (with_line J kinds.over mark v) (os ∙ ap overstated (kept e fits.sfits)) in
         let b = is-under ∙ ap (with_line J kinds.under mark v) (us ∙ ap understated (kept e fits.sfits)) in
-        (λ i. accepted (record { over = a i; under = b i })) ∙ sym (simp (within, ne_eqb mark 0 z))
+        (λ i. accepted (record { over = a i; under = b i })) ∙ sym (simp (within, clear z))
 
 -- both sums of a kind, added, fit
 pub sums_fit : {sums : BoardSums} → SmallSums sums → Fits w64 (sums.full + sums.sampled)
 sums_fit small = record { fits = omega (arith, small.small, most_size_lem false) }
-
--- and both kinds make the answer; the net is read from its bits
-pub is_projection : (over under : BoardSums) (net : ℤ) → mag net < 2 ^ 63 → net ≡ pos (over.full + over.sampled) -ℤ pos (under.full + under.sampled) → ◌≡◌ {A = BoardProjection}
-    (record { full = over.full; sampled = over.sampled; m = over.m; under_full = under.full; under_sampled = under.sampled; net = held net })
-    (board_projection_of over under)
-is_projection over under net fits is = λ i.
-    record { full = over.full; sampled = over.sampled; m = over.m; under_full = under.full; under_sampled = under.sampled; net = (kept net fits ∙ is) i }

@@ -13,7 +13,7 @@ use Rattle.terms.specs.Limits.{most_total, most_interval}
 use Rattle.terms.proofs.Tests.{by_test, le_or_lt}
 use Rattle.blackboard.specs.declared.Walker.{Walker}
 use Rattle.blackboard.specs.Board.{row_end, stop_at, points_from, points_of, board_marks}
-use Rattle.blackboard.specs.Steps.{OnBoard, mark_where, walker_after}
+use Rattle.blackboard.specs.Steps.{OnBoard, mark_where, walker_at, walker_after}
 use Rattle.blackboard.proofs.Counting.{counts_some, end_total, some_interval, stop_before, stop_counts, stop_rises, stop_later}
 use Rattle.blackboard.proofs.Walking.{Onward, points_on, reached, board_mark}
 
@@ -34,10 +34,10 @@ pub record Standing (J start : ℕ) (ledger : List ℕ) (line : ℕ) (at : Walke
   pub near : at.point ≤ most_total + most_interval
   pub same : (i : ℕ) → line ≤ i → reached J ledger i (points_of J start ledger) ≡ reached J ledger i (points_from fuel J (row_end J ledger) at.point)
 
-pub standing_first : (J start : ℕ) (ledger : List ℕ) (first : ℕ) → OnBoard J ledger → start ≤ J → first ≡ stop_at J ledger start → Standing J start ledger 0 (record { point = start; stop = first })
+pub standing_first : (J start : ℕ) (ledger : List ℕ) (at : Walker) → OnBoard J ledger → start ≤ J → at ≡ walker_at J ledger start → Standing J start ledger 0 at
 unfolding points_of
-standing_first J start ledger first board early e =
-    record { fuel = row_end J ledger; enough = omega arith; stops = e; ahead = zero-le; near = omega (arith, board.narrow); same = λ i h. refl }
+standing_first J start ledger at board early e =
+    rw e (record { fuel = row_end J ledger; enough = omega arith; stops = refl; ahead = zero-le; near = omega (arith, board.narrow); same = λ i h. refl })
 
 module _ (J start : ℕ) (ledger : List ℕ) (line : ℕ) (at : Walker) (by : Standing J start ledger line at) (more : line < length ledger) where
   -- the counting stops at this line

@@ -1,16 +1,11 @@
 -- The draw by walking: its answer for every ledger, number of draws, start and length of the marks, and the marks. Definitions: nothing is assumed.
-use Rattle.std.specs.Prelude.{ℕ, ◌≡◌, List, ltb, eqb, length}
-use Rattle.terms.specs.Outcome.{Outcome, accepted, refused, refused_by, after, left}
+use Rattle.std.specs.Prelude.{ℕ, ◌≡◌, List, ltb, eqb, length, Result}
+use Rattle.terms.specs.declared.Refusal.{Refusal}
+use Rattle.terms.specs.Outcome.{Outcome, accepted, refused, after, left, says}
 use Rattle.terms.specs.Numbers.{pick}
-use Rattle.split.specs.declared.{Figures.Figures, SplitAnswer.SplitAnswer}
-use Rattle.split.specs.Split.{split_says, split_of}
-use Rattle.blackboard.specs.declared.BoardDrawAnswer.{BoardDrawAnswer}
+use Rattle.split.specs.declared.{Figures.Figures}
+use Rattle.split.specs.Split.{split_of}
 use Rattle.blackboard.specs.Board.{board_marks, drawn_lines}
-
--- what an answer says: how many lines are marked 1, or a refusal's number and place
-abbrev pub board_draw_says : BoardDrawAnswer → Outcome ℕ
-board_draw_says (BoardDrawAnswer.Drawn lines) = accepted lines
-board_draw_says (BoardDrawAnswer.Refused why) = refused_by why
 
 -- a walk begins at 0, or at a cent below J; 11 elsewhere
 abbrev pub walk_start : ℕ → Figures → Outcome Figures
@@ -21,8 +16,8 @@ unfoldable pub board_figures : List ℕ → ℕ → ℕ → ℕ → Outcome Figu
 board_figures ledger n start beside = after (walk_start start) (split_of ledger n beside)
 
 -- what `board_figures` promises
-pub record BoardFiguresPromise (ledger : List ℕ) (n start beside : ℕ) (r : SplitAnswer) : Type 0 where
-  pub answer : split_says r ≡ board_figures ledger n start beside
+pub record BoardFiguresPromise (ledger : List ℕ) (n start beside : ℕ) (r : Result Figures Refusal) : Type 0 where
+  pub answer : says r ≡ board_figures ledger n start beside
 
 -- the marks at the figures' interval
 abbrev pub board_marks_at : List ℕ → ℕ → Figures → List ℕ
@@ -33,6 +28,6 @@ unfoldable pub board_draw_of : List ℕ → ℕ → ℕ → ℕ → Outcome ℕ
 board_draw_of ledger n start beside = after (λ figures. accepted (drawn_lines (board_marks_at ledger start figures))) (board_figures ledger n start beside)
 
 -- what `board_draw` promises: the answer, and the marks, which a refusal leaves
-pub record BoardDrawPromise (ledger : List ℕ) (n start : ℕ) (marks : List ℕ) (r : BoardDrawAnswer) (marks' : List ℕ) : Type 0 where
-  pub answer : board_draw_says r ≡ board_draw_of ledger n start (length marks)
+pub record BoardDrawPromise (ledger : List ℕ) (n start : ℕ) (marks : List ℕ) (r : Result ℕ Refusal) (marks' : List ℕ) : Type 0 where
+  pub answer : says r ≡ board_draw_of ledger n start (length marks)
   pub marks_left : marks' ≡ left (board_marks_at ledger start) marks (board_figures ledger n start (length marks))

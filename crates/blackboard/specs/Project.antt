@@ -1,17 +1,13 @@
 -- The projection by walking: its answer for every ledger, number of draws, start and errors, from the marks of the walk. Definitions: nothing is assumed.
-use Rattle.std.specs.Prelude.{ℕ, suc, ◌+◌, ◌*◌, ◌≡◌, false, List, [], ◌∷◌, ltb, eqb, ℤ, pos, ◌-ℤ◌, length, get_or, drop}
-use Rattle.terms.specs.Outcome.{Outcome, accepted, refused, refused_by, after}
+use Rattle.std.specs.Prelude.{ℕ, suc, ◌+◌, ◌*◌, ◌≡◌, false, List, [], ◌∷◌, ltb, eqb, ℤ, pos, ◌-ℤ◌, length, get_or, drop, Result}
+use Rattle.terms.specs.declared.Refusal.{Refusal}
+use Rattle.terms.specs.Outcome.{Outcome, accepted, refused, after, says}
 use Rattle.terms.specs.Numbers.{pick, div_up}
 use Rattle.signed.specs.Errors.{overstated, understated, size_of}
 use Rattle.split.specs.declared.Figures.{Figures}
-use Rattle.blackboard.specs.declared.{BoardSums.BoardSums, BoardKinds.BoardKinds, BoardProjection.BoardProjection, BoardProjectAnswer.BoardProjectAnswer}
+use Rattle.blackboard.specs.declared.{BoardSums.BoardSums, BoardKinds.BoardKinds, BoardProjection.BoardProjection}
 use Rattle.blackboard.specs.Board.{board_marks}
 use Rattle.blackboard.specs.Draw.{board_figures}
-
--- what an answer says: the projection, or a refusal's number and place
-abbrev pub board_project_says : BoardProjectAnswer → Outcome BoardProjection
-board_project_says (BoardProjectAnswer.Projected projection) = accepted projection
-board_project_says (BoardProjectAnswer.Refused why) = refused_by why
 
 -- the amount of a drawn line: error × J / value, rounded up
 unfoldable pub board_amount : ℕ → ℕ → ℕ → ℕ
@@ -71,5 +67,5 @@ unfoldable pub board_project_of : List ℕ → ℕ → ℕ → List ℤ → Outc
 board_project_of ledger n start errors = after (board_projected_by ledger start errors) (board_figures ledger n start (length errors))
 
 -- what `board_project` promises
-pub record BoardProjectPromise (ledger : List ℕ) (n start : ℕ) (errors : List ℤ) (r : BoardProjectAnswer) : Type 0 where
-  pub answer : board_project_says r ≡ board_project_of ledger n start errors
+pub record BoardProjectPromise (ledger : List ℕ) (n start : ℕ) (errors : List ℤ) (r : Result BoardProjection Refusal) : Type 0 where
+  pub answer : says r ≡ board_project_of ledger n start errors

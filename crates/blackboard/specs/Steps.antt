@@ -1,15 +1,10 @@
 -- What the functions of the walk ask of each other; no promise of an operation names these. Definitions: nothing is assumed.
 use Rattle.std.specs.Prelude.{ℕ, ◌+◌, ◌≤◌, ◌<◌, ◌^◌, ◌≡◌, false, List, ltb, eqb, ℤ, length}
-use Rattle.terms.specs.Outcome.{Outcome, accepted, refused_by}
 use Rattle.terms.specs.Numbers.{pick, sum}
 use Rattle.terms.specs.Limits.{most_lines, most_total, most_interval}
 use Rattle.signed.specs.Errors.{most_size}
-use Rattle.blackboard.specs.declared.{BoardSums.BoardSums, BoardKinds.BoardKinds, AddAnswer.AddAnswer, Walker.Walker}
+use Rattle.blackboard.specs.declared.{BoardSums.BoardSums, BoardKinds.BoardKinds, Walker.Walker}
 use Rattle.blackboard.specs.Board.{stop_at, board_marks, drawn_lines}
-
-abbrev pub add_says : AddAnswer → Outcome BoardKinds
-add_says (AddAnswer.Added kinds) = accepted kinds
-add_says (AddAnswer.Refused why) = refused_by why
 
 -- a ledger and an interval that a split has let pass
 pub record OnBoard (J : ℕ) (ledger : List ℕ) : Type 0 where
@@ -32,10 +27,13 @@ pub record ToAdd (J start : ℕ) (ledger : List ℕ) (errors : List ℤ) : Type 
 abbrev pub mark_where : ℕ → ℕ → ℕ → ℕ → ℕ
 mark_where J value line stop = pick (ltb J value) 2 (pick (eqb line stop) 1 0)
 
--- where the walk stands after a line: at the next point, where it stopped at that line
+-- where the walk stands at a point
+abbrev pub walker_at : ℕ → List ℕ → ℕ → Walker
+walker_at J ledger point = record { point = point; stop = stop_at J ledger point }
+
+-- where it stands after a line: at the next point, where it stopped at that line
 abbrev pub walker_after : ℕ → List ℕ → Walker → ℕ → Walker
-walker_after J ledger at line =
-    pick (eqb line at.stop) (record { point = at.point + J; stop = stop_at J ledger (at.point + J) }) at
+walker_after J ledger at line = pick (eqb line at.stop) (walker_at J ledger (at.point + J)) at
 
 -- there is room in the sums of a kind for what a line gives by its mark
 pub record SumRoom (J : ℕ) (sums : BoardSums) (mark value : ℕ) : Type 0 where

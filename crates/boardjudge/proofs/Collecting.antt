@@ -25,8 +25,7 @@ use Rattle.project.specs.Gather.{kept_by, kept_from}
 use Rattle.project.proofs.Lines.{lines_length}
 use Rattle.project.proofs.Kept.{kept_length, kept_sorted}
 use Rattle.blackboard.specs.declared.Walker.{Walker}
-use Rattle.blackboard.specs.Board.{stop_at}
-use Rattle.blackboard.specs.Steps.{mark_where, walker_after}
+use Rattle.blackboard.specs.Steps.{mark_where, walker_at, walker_after}
 use Rattle.blackboard.proofs.Standing.{Standing, standing_first, standing_on, standing_mark, standing_drawn}
 use Rattle.boardjudge.specs.Marked.{marked_line, MarkFits, Walkable}
 use Rattle.boardjudge.proofs.Marks.{line_on}
@@ -54,13 +53,13 @@ pub record Collecting (J start : ℕ) (ledger : List ℕ) (errors : List ℤ) (b
   pub same : length amounts ≡ length before
   pub fall : Sorted (take m amounts)
 
-pub collecting_none : {J start : ℕ} {ledger : List ℕ} {errors : List ℤ} {before : List ℕ} {first : ℕ} → Walkable J start ledger errors → first ≡ stop_at J ledger start →
-    Collecting J start ledger errors before (record { point = start; stop = first }) 0 0 before
-collecting_none {J} {start} {ledger} {first = first} given e =
+pub collecting_none : {J start : ℕ} {ledger : List ℕ} {errors : List ℤ} {before : List ℕ} {at : Walker} → Walkable J start ledger errors → at ≡ walker_at J ledger start →
+    Collecting J start ledger errors before at 0 0 before
+collecting_none {J} {start} {ledger} {at = at} given e =
     record {
       given = given;
       inside = zero-le;
-      stands = standing_first J start ledger first given.given.board given.given.early e;
+      stands = standing_first J start ledger at given.given.board given.given.early e;
       few = zero-le;
       kept = refl;
       same = refl;

@@ -1,5 +1,4 @@
 -- What the proofs of several functions use, and what callers cite.
 pub mod Marks
-pub mod Keeping
 pub mod Collecting
 pub mod Judging

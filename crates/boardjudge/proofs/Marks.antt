@@ -1,47 +1,24 @@
 -- The lines of a ledger by the marks of the walk. Assumes nothing.
-use Prim.Native.Nat.{ℕ, zero, suc, ◌+◌, ◌≤◌, ◌<◌}
+use Prim.Native.Nat.{ℕ, zero, suc, ◌+◌, ◌<◌}
 use native.Mathlib.Numerals.{add-one}
 use native.Mathlib.Omega.{arith}
 use mathlib.Core.Path.{◌≡◌, refl, sym, ap, ◌∙◌}
 use mathlib.Core.Bool.{Bool, true, false}
 use mathlib.Core.List.{List, [], ◌∷◌}
-use borrow.Author.Tests.{eq-eqb, ne_eqb}
 use lib.Dec.{eqb}
 use lib.IntN.{ℤ, pos}
 use lib.ListN.{length, get_or, drop}
 use lib.Seq.{get_or-drop}
-use Rattle.terms.specs.Limits.{most_interval}
 use Rattle.draw.specs.Points.{covers}
 use Rattle.draw.specs.Row.{full, cents, mark_by, marks_from, draw_marks}
 use Rattle.signed.specs.declared.Part.{Part}
 use Rattle.signed.specs.Parts.{part_of, parts}
 use Rattle.signed.proofs.Laws.{parts_at}
-use Rattle.project.specs.declared.Line.{Line}
-use Rattle.project.specs.declared.State.TheVariants.{NotDrawn, Drawn, Full}
 use Rattle.project.specs.Lines.{amount, state_by, lines_from, lines_of}
 use Rattle.project.specs.Project.{lines_with}
 use Rattle.blackboard.specs.Board.{board_marks}
-use Rattle.blackboard.specs.Project.{board_amount}
 use Rattle.sameboard.proofs.Marks.{same_marks}
-use Rattle.boardjudge.specs.Marked.{marked_line, MarkFits}
-
--- one line, as `marked_line` meets it
-module _ (J v e mark : ℕ) where
-  pub is_full : mark ≡ 2 → ◌≡◌ {A = Line} (record { value = v; error = e; state = Full }) (marked_line J v e mark)
-  is_full h = sym (simp (eq-eqb mark 2 h))
-
-  pub is_drawn : (a : ℕ) → (mark ≡ 2 → ⊥) → mark ≡ 1 → a ≡ board_amount J v e → ◌≡◌ {A = Line} (record { value = v; error = e; state = Drawn a }) (marked_line J v e mark)
-  unfolding board_amount amount
-  is_drawn a other h is =
-      let by : state_by (eqb mark 2) (eqb mark 1) a ≡ Drawn a = simp (ne_eqb mark 2 other, eq-eqb mark 1 h) in
-      λ i. record { value = v; error = e; state = (sym by ∙ ap (state_by (eqb mark 2) (eqb mark 1)) is) i }
-
-  -- what the amount asks
-  pub drawn_fits : MarkFits J v e mark → mark ≡ 1 → (0 < v) × (v ≤ J) × (e ≤ v) × (J ≤ most_interval)
-  drawn_fits fits h = ((fits.some h).0, (fits.some h).1, fits.within, fits.narrow)
-
-  pub is_neither : (mark ≡ 2 → ⊥) → (mark ≡ 1 → ⊥) → ◌≡◌ {A = Line} (record { value = v; error = e; state = NotDrawn }) (marked_line J v e mark)
-  is_neither other none = sym (simp (ne_eqb mark 2 other, ne_eqb mark 1 none))
+use Rattle.boardjudge.specs.Marked.{marked_line}
 
 -- the state by a mark is that by whether the line is full and whether it covers a point
 state_marked : (f c : Bool) (a : ℕ) → state_by f c a ≡ state_by (eqb (mark_by f c) 2) (eqb (mark_by f c) 1) a

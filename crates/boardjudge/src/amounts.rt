@@ -9,60 +9,38 @@ ghost use Rattle.project.specs.Gather.{kept_by, kept_from};
 ghost use Rattle.boardjudge.specs.Marked.{Walkable};
 
 use crate::marked_line;
-use blackboard::Walker;
-use blackboard::points::count_off;
-use blackboard::sums::{mark_where, walk_on};
+use blackboard::Board;
+use blackboard::sums::mark_where;
 use project::{Line, State};
 use terms::Cent;
 
-// Puts the amount of a drawn line with an error above 0 in its place among the m before it, while there is room.
-fn keep(amounts: &mut [u64], m: usize, line: Line)
-    requires { Sorted (take m amounts.old) }
-    ensures { amounts.new ≡ kept_by amounts.old m line.state line.error }
+// Puts the amount of a drawn line with an error above 0 in its place among the m before it, while there is room, and answers how many there are
+// with it. No step is shared with the first method's `keep`.
+#[tactic(auto, unfolding(project::specs::Gather::kept_by))]
+fn keep(amounts: &mut [u64], m: usize, line: Line) -> usize
+    requires { Sorted (take m amounts.old) × (m < most_lines) }
+    ensures { (amounts.new ≡ kept_by amounts.old m line.state line.error) × (result ≡ m + count_part line.state line.error) }
 {
-    let state = line.state;
-    match state {
-        State::NotDrawn => {}
-        State::Drawn(amount) => {
-            if line.error > 0 {
-                sorting::insert_down(amounts, m, amount);
-            }
+    match line.state {
+        State::Drawn(amount) if line.error > 0 => {
+            sorting::insert_down(amounts, m, amount);
+            m + 1
         }
-        State::Full => {}
-    }
-}
-
-// How many amounts there are with that of the line.
-fn counted(m: usize, line: Line) -> usize
-    requires { m < most_lines }
-    ensures { result ≡ m + count_part line.state line.error }
-{
-    let state = line.state;
-    match state {
-        State::NotDrawn => m,
-        State::Drawn(_) => { if 0 < line.error { m + 1 } else { m } }
-        State::Full => m,
+        _ => m,
     }
 }
 
 // The amounts of all lines, by the walk.
-pub fn collect(ledger: &[u64], interval: u64, start: Cent, errors: &[i64], amounts: &mut [u64])
-    requires { Walkable interval start.0 ledger.now errors.now }
-    ensures { amounts.new ≡ kept_from (lines_with Overstated interval start.0 ledger.now errors.now) 0 amounts.old }
+pub fn collect(board: Board, start: Cent, errors: &[i64], amounts: &mut [u64])
+    requires { Walkable board.interval start.0 board.ledger.now errors.now }
+    ensures { amounts.new ≡ kept_from (lines_with Overstated board.entry.interval start.0 board.entry.ledger.now errors.now) 0 amounts.old }
 {
-    let point = start.0;
-    let stop = count_off(ledger, interval, point);
-    let mut at = Walker { point, stop };
+    let mut at = board.walker_at(start.0);
     let mut m: usize = 0;
-    let mut item: usize = 0;
-    while item < ledger.len() {
-        let value = ledger[item];
-        let mark = mark_where(value, interval, item, at.stop);
+    for (item, value) in board.ledger.iter().enumerate() {
+        let mark = mark_where(*value, board.interval, item, at.stop);
         let error = signed::overstated_of(errors[item]);
-        let line = marked_line(value, error, interval, mark);
-        keep(amounts, m, line);
-        m = counted(m, line);
-        at = walk_on(ledger, interval, at, item);
-        item += 1;
+        m = keep(amounts, m, marked_line(*value, error, board.interval, mark));
+        at = board.walk_on(at, item);
     }
 }

@@ -3,51 +3,40 @@
 
 mod amounts; // amounts.rt: the amounts of the drawn lines
 
-ghost use Rattle.std.specs.Prelude.{◌≡◌, length};
-ghost use Rattle.terms.specs.Outcome.{accepted};
-ghost use Rattle.ledger.specs.Ledger.{ledger_of};
+ghost use Rattle.std.specs.Prelude.{◌≡◌};
+ghost use Rattle.terms.specs.Outcome.{says};
 ghost use Rattle.project.specs.Project.{Ready};
-ghost use Rattle.judge.specs.Judge.{judge_says, judged_at, judged_figures, judged_ledger, JudgePromise};
+ghost use Rattle.judge.specs.Judge.{judged_at, JudgePromise};
 ghost use Rattle.sameboard.specs.Same.{as_projection};
 ghost use Rattle.boardjudge.specs.Marked.{marked_line, MarkFits};
 
 use crate::amounts::collect;
-use blackboard::{BoardProjectAnswer, BoardProjection};
-use factors::{Level, LevelAnswer};
-use judge::JudgeAnswer;
-use ledger::LedgerAnswer;
+use blackboard::{Board, BoardProjection};
+use factors::Level;
+use judge::Judgement;
 use project::{Line, Projection, State};
-use split::SplitAnswer;
+use split::Book;
 use terms::{Cent, Refusal};
 
 // A line with the state that its mark says: 2 full, 1 drawn with its amount, 0 neither.
+#[tactic(auto, unfolding(blackboard::specs::Project::board_amount, project::specs::Lines::amount))]
 pub fn marked_line(value: u64, error: u64, interval: u64, mark: u8) -> Line
     requires { MarkFits interval value error mark }
     ensures { result ≡ marked_line interval value error mark }
 {
-    if mark == 2 {
-        return Line {
-            value,
-            error,
-            state: State::Full,
-        };
-    }
-    if mark == 1 {
-        let amount = blackboard::sums::board_amount(value, error, interval);
-        return Line {
-            value,
-            error,
-            state: State::Drawn(amount),
-        };
-    }
+    let state = match mark {
+        2 => State::Full,
+        1 => State::Drawn(blackboard::sums::board_amount(value, error, interval)),
+        _ => State::NotDrawn,
+    };
     Line {
         value,
         error,
-        state: State::NotDrawn,
+        state,
     }
 }
 
-// Figure by figure, the walk's projection as the judgement takes it.
+// Figure by figure, the walk's projection as the judgement takes it. No `From`: both types are of other crates.
 fn as_projection(p: BoardProjection) -> Projection
     ensures { result ≡ as_projection p }
 {
@@ -61,82 +50,49 @@ fn as_projection(p: BoardProjection) -> Projection
     }
 }
 
-// 14 and 15 line by line, then what follows from the amounts, at an interval and a start.
+// 14 and 15 line by line, then what follows from the amounts, at a start.
 fn judge_lines(
     level: Level,
-    ledger: &[u64],
-    interval: u64,
+    board: Board,
     start: Cent,
     errors: &[i64],
     te: u64,
-) -> JudgeAnswer
-    requires { Ready 0 interval start.0 ledger.now errors.now }
-    ensures { judge_says result ≡ judged_at level ledger.now start.0 errors.now te interval }
+) -> Result<Judgement, Refusal>
+    requires { Ready 0 board.interval start.0 board.ledger.now errors.now }
+    ensures { says result ≡ judged_at level board.entry.ledger.now start.0 errors.now te board.entry.interval }
 {
-    match blackboard::sums::add_up(ledger, interval, start, errors) {
-        BoardProjectAnswer::Refused(why) => JudgeAnswer::Refused(why),
-        BoardProjectAnswer::Projected(walked) => {
-            let mut amounts = [0u64; terms::MOST_ERRORS];
-            collect(ledger, interval, start, errors, &mut amounts);
-            let projection = as_projection(walked);
-            judge::judge_amounts(level, interval, te, projection, &amounts)
-        }
-    }
+    let walked = board.add_up(start, errors)?;
+    let mut amounts = [0u64; terms::MOST_ERRORS];
+    collect(board, start, errors, &mut amounts);
+    judge::judge_amounts(level, board.interval, te, as_projection(walked), &amounts)
 }
 
-// The judgement of a ledger with this total.
-fn judge_total(
-    level: Level,
+// The judgement by walking: the promise is that of the first judgement, with its refusals in the same order.
+#[tactic(auto, using(judge::proofs::Answer::judged), unfolding(judge::specs::Judge::judge_of, judge::specs::Judge::judged_ledger, judge::specs::Judge::judged_figures))]
+pub fn judge(
+    level: u8,
     ledger: &[u64],
     n: u64,
-    start: Cent,
+    start: u64,
     errors: &[i64],
     te: u64,
-    total: u64,
-) -> JudgeAnswer
-    requires { accepted total ≡ ledger_of ledger.now (length errors.now) }
-    ensures { judge_says result ≡ judged_figures level ledger.now n start.0 errors.now te }
-{
-    match split::figures_at(ledger, n, start, total) {
-        SplitAnswer::Refused(why) => JudgeAnswer::Refused(why),
-        SplitAnswer::Split(figures) => {
-            let interval = figures.interval;
-            judge_lines(level, ledger, interval, start, errors, te)
-        }
-    }
-}
-
-// The judgement at a known level: the refusals of the ledger, then 6.
-fn judge_level(
-    level: Level,
-    ledger: &[u64],
-    n: u64,
-    start: Cent,
-    errors: &[i64],
-    te: u64,
-) -> JudgeAnswer
-    ensures { judge_says result ≡ judged_ledger ledger.now n start.0 errors.now te level }
-{
-    match ledger::judge_ledger(ledger, errors.len()) {
-        LedgerAnswer::Refused(why) => JudgeAnswer::Refused(why),
-        LedgerAnswer::Total(total) => {
-            if te == 0 {
-                return JudgeAnswer::Refused(Refusal::ToleranceOutOfRange);
-            }
-            if te > total {
-                return JudgeAnswer::Refused(Refusal::ToleranceOutOfRange);
-            }
-            judge_total(level, ledger, n, start, errors, te, total)
-        }
-    }
-}
-
-// The judgement by walking: the promise is that of the first judgement.
-pub fn judge(level: u8, ledger: &[u64], n: u64, start: u64, errors: &[i64], te: u64) -> JudgeAnswer
+) -> Result<Judgement, Refusal>
     ensures { JudgePromise level ledger.now n start errors.now te result }
 {
-    match factors::level_of(level) {
-        LevelAnswer::Refused(why) => JudgeAnswer::Refused(why),
-        LevelAnswer::Known(known) => { judge_level(known, ledger, n, Cent(start), errors, te) },
+    let level = Level::from_percent(level)?;
+    let total = ledger::judge_ledger(ledger, errors.len())?;
+    if te == 0 || te > total {
+        return Err(Refusal::ToleranceOutOfRange);
     }
+    let start = Cent(start);
+    let book = Book {
+        lines: ledger,
+        total,
+    };
+    let figures = book.figures_at(n, start)?;
+    let board = Board {
+        ledger,
+        interval: figures.interval,
+    };
+    judge_lines(level, board, start, errors, te)
 }

@@ -3,11 +3,9 @@ use crate::{of_draw, of_project};
 use answers::Answer;
 
 pub fn board_draw(ledger: &[u64], n: u64, start: u64, marks: &mut [u8]) -> Answer {
-    of_draw(results::board::of_board_draw(blackboard::board_draw(ledger, n, start, marks)))
+    of_draw(blackboard::board_draw(ledger, n, start, marks).into())
 }
 
 pub fn board_project(ledger: &[u64], n: u64, start: u64, errors: &[i64]) -> Answer {
-    of_project(results::board::of_board_project(blackboard::board_project(
-        ledger, n, start, errors,
-    )))
+    of_project(blackboard::board_project(ledger, n, start, errors).into())
 }

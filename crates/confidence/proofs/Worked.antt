@@ -4,7 +4,7 @@ use Rattle.pen.specs.Letters.{letters}
 use Rattle.pen.specs.Text.{decimal, decimal_in}
 use Rattle.attributes.specs.Table.{levels, tolerances, sizes, bounds}
 use Rattle.attributes.specs.Attributes.{place_from, level_place, tolerance_place, entry_place, items_of, bound_at, bound_of}
-use Rattle.entry.specs.declared.NumbersAnswer.{NumbersAnswer}
+use Rattle.std.specs.Prelude.{Ok, Err}
 use Rattle.entry.specs.declared.Wrong.{Wrong}
 use Rattle.entry.specs.Text.{blank, opens, fields_of, goes_on}
 use Rattle.entry.specs.Records.{number_from, number_of, numbers_from}
@@ -30,10 +30,10 @@ unfolding statement_text decimal decimal_in items_of bound_of bound_at entry_pla
 no_byte = refl
 
 -- blanks are passed over, and only the first line is read
-pub line_asked : asked_of (letters " 90  5 2 \n95") ≡ NumbersAnswer.Read (record { first = 90; second = 5; third = 2 })
+pub line_asked : asked_of (letters " 90  5 2 \n95") ≡ Ok (record { first = 90; second = 5; third = 2 })
 unfolding asked_of run_of goes_on fields_at fields_of opens blank numbers_from number_of number_from
 line_asked = refl
 
-pub number_lacking : asked_of (letters "90 5\n") ≡ NumbersAnswer.Unread Wrong.NumberMissing
+pub number_lacking : asked_of (letters "90 5\n") ≡ Err Wrong.NumberMissing
 unfolding asked_of run_of goes_on fields_at fields_of opens blank numbers_from number_of number_from
 number_lacking = refl

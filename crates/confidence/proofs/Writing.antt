@@ -1,5 +1,7 @@
 -- The statement as the code writes it, and how long it is at most. Assumes nothing.
 use Prim.Native.Nat.{ℕ, ◌/◌, ◌%◌, ◌≤◌}
+use Rattle.std.specs.Prelude.{Result, Ok, Err}
+use Rattle.terms.specs.Outcome.{says}
 use mathlib.Core.Path.{◌≡◌, sym, ap, ◌∙◌}
 use mathlib.Core.List.{List, [], ◌∷◌, ◌++◌}
 use native.Mathlib.Omega.{arith}
@@ -13,8 +15,7 @@ use Rattle.pen.proofs.Decimals.{decimal_length}
 use Rattle.pen.proofs.Lengths.{Small, words_short}
 use Rattle.pen.proofs.Writing.{◌⨾◌, as_text, after_space, words_laid, printed}
 use Rattle.sheet.specs.Lines.{refused_line}
-use Rattle.attributes.specs.declared.{ItemsAnswer.ItemsAnswer, BoundAnswer.BoundAnswer}
-use Rattle.attributes.specs.Attributes.{items_says, bound_says, ItemsPromise, BoundPromise}
+use Rattle.attributes.specs.Attributes.{ItemsPromise, BoundPromise}
 use Rattle.confidence.specs.Confidence.{percent_text, statement_line, bound_text, items_text, statement_text, longest_statement, Stated}
 
 -- a statement that is another, as text
@@ -66,27 +67,19 @@ pub refused_stated : (why : Refusal) {o o' : List ℕ} {a a' : ℕ} → Wrote o 
     Stated o a (refused_line (number why) (place why)) o' a'
 refused_stated why w = record { wrote = w.0; short = omega (arith, w.1) }
 
-pub bound_refused : (items exceptions : ℕ) {answer : BoundAnswer} (why : Refusal) {o o' : List ℕ} {a a' : ℕ} → answer ≡ BoundAnswer.Refused why →
-    Wrote o a (refused_line (number why) (place why)) o' a' × (length (refused_line (number why) (place why)) ≤ 50) → Stated o a (bound_text items exceptions (bound_says answer)) o' a'
-bound_refused items exceptions why is w = stated_as (ap (λ (b : BoundAnswer). bound_text items exceptions (bound_says b)) is) (refused_stated why w)
-
-pub bound_stated : (items exceptions : ℕ) {answer : BoundAnswer} (h : ℕ) {o o' : List ℕ} {a a' : ℕ} → answer ≡ BoundAnswer.Hundredths h →
-    Stated o a (statement_line items exceptions h) o' a' → Stated o a (bound_text items exceptions (bound_says answer)) o' a'
-bound_stated items exceptions h is w = stated_as (ap (λ (b : BoundAnswer). bound_text items exceptions (bound_says b)) is) w
-
-module _ (level tolerance exceptions : ℕ) {answer : ItemsAnswer} (m : ItemsPromise level tolerance answer) where
-  text_is : statement_text level tolerance exceptions ≡ items_text level tolerance exceptions (items_says answer)
+module _ (level tolerance exceptions : ℕ) {answer : Result ℕ Refusal} (m : ItemsPromise level tolerance answer) where
+  text_is : statement_text level tolerance exceptions ≡ items_text level tolerance exceptions (says answer)
   unfolding statement_text
   text_is = ap (items_text level tolerance exceptions) (sym m.answer)
 
-  pub items_refused : (why : Refusal) {o o' : List ℕ} {a a' : ℕ} → answer ≡ ItemsAnswer.Refused why →
+  pub items_refused : (why : Refusal) {o o' : List ℕ} {a a' : ℕ} → answer ≡ Err why →
       Wrote o a (refused_line (number why) (place why)) o' a' × (length (refused_line (number why) (place why)) ≤ 50) → Stated o a (statement_text level tolerance exceptions) o' a'
-  items_refused why is w = stated_as (text_is ∙ ap (λ (b : ItemsAnswer). items_text level tolerance exceptions (items_says b)) is) (refused_stated why w)
+  items_refused why is w = stated_as (text_is ∙ ap (λ (b : Result ℕ Refusal). items_text level tolerance exceptions (says b)) is) (refused_stated why w)
 
-  pub items_stated : (items : ℕ) {found : BoundAnswer} {o o' : List ℕ} {a a' : ℕ} → answer ≡ ItemsAnswer.Items items → BoundPromise level tolerance exceptions found →
-      Stated o a (bound_text items exceptions (bound_says found)) o' a' → Stated o a (statement_text level tolerance exceptions) o' a'
+  pub items_stated : (items : ℕ) {found : Result ℕ Refusal} {o o' : List ℕ} {a a' : ℕ} → answer ≡ Ok items → BoundPromise level tolerance exceptions found →
+      Stated o a (bound_text items exceptions (says found)) o' a' → Stated o a (statement_text level tolerance exceptions) o' a'
   items_stated items is b w =
-      stated_as (text_is ∙ ap (λ (x : ItemsAnswer). items_text level tolerance exceptions (items_says x)) is ∙ ap (bound_text items exceptions) (sym b.answer)) w
+      stated_as (text_is ∙ ap (λ (x : Result ℕ Refusal). items_text level tolerance exceptions (says x)) is ∙ ap (bound_text items exceptions) (sym b.answer)) w
 
 pub statement_printed : (level tolerance exceptions : ℕ) {page page' : List ℕ} {r : ℕ} → longest_statement ≤ length page → Stated page 0 (statement_text level tolerance exceptions) page' r →
     Printed (statement_text level tolerance exceptions) page r page'

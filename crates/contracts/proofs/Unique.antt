@@ -1,34 +1,18 @@
 -- The promises leave no freedom: any two results that meet one agree. Assumes nothing.
 use Prim.Native.Nat.{ℕ}
-use mathlib.Core.Path.{◌≡◌, refl, sym, ap, ◌∙◌}
+use mathlib.Core.Path.{sym, ap, ◌∙◌}
 use mathlib.Core.List.{List}
 use lib.IntN.{ℤ}
-use Rattle.terms.specs.Outcome.{Outcome}
-use Rattle.terms.proofs.Answers.{Made, good, bad, one_answer}
-use Rattle.factors.specs.declared.LevelAnswer.{LevelAnswer}
-use Rattle.factors.specs.declared.LevelAnswer.TheVariants as level
-use Rattle.ledger.specs.declared.LedgerAnswer.{LedgerAnswer}
-use Rattle.ledger.specs.declared.LedgerAnswer.TheVariants as ledger
-use Rattle.size.specs.declared.SizeAnswer.{SizeAnswer}
-use Rattle.size.specs.declared.SizeAnswer.TheVariants as size
-use Rattle.start.specs.declared.StartAnswer.{StartAnswer}
-use Rattle.start.specs.declared.StartAnswer.TheVariants as start
-use Rattle.project.specs.declared.Projection.{Projection}
-use Rattle.project.specs.declared.ProjectAnswer.{ProjectAnswer}
-use Rattle.project.specs.declared.ProjectAnswer.TheVariants as project
-use Rattle.judge.specs.declared.JudgeAnswer.{JudgeAnswer}
-use Rattle.judge.specs.declared.JudgeAnswer.TheVariants as judge
-use Rattle.factors.specs.Levels.{level_says}
-use Rattle.ledger.specs.Ledger.{ledger_says}
-use Rattle.size.specs.Size.{size_says, SizePromise}
+use Rattle.terms.proofs.Answers.{says_once}
+use Rattle.size.specs.Size.{SizePromise}
 use Rattle.split.specs.Split.{SplitPromise}
-use Rattle.split.proofs.Once.{split_answer, split_once}
-use Rattle.start.specs.Start.{start_says, StartPromise}
+use Rattle.split.proofs.Once.{split_once}
+use Rattle.start.specs.Start.{StartPromise}
 use Rattle.draw.specs.Draw.{DrawPromise}
 use Rattle.draw.proofs.Once.{draw_once}
-use Rattle.project.specs.Project.{project_says, ProjectPromise}
+use Rattle.project.specs.Project.{ProjectPromise}
 use Rattle.lines.specs.Each.{LinesPromise}
-use Rattle.judge.specs.Judge.{judge_says, JudgePromise}
+use Rattle.judge.specs.Judge.{JudgePromise}
 use Rattle.workfile.specs.declared.Plan.{Plan}
 use Rattle.workfile.specs.Promises.{ReadPromise, WritePromise}
 use Rattle.workfile.proofs.Promises.{read_once, write_once}
@@ -48,61 +32,32 @@ use Rattle.findings.specs.Findings.{PostPromise}
 use Rattle.findings.specs.Batch.{PostAllPromise}
 use Rattle.findings.proofs.Answers.{post_once, post_all_once}
 use Rattle.teams.proofs.Laws.{team_split_once, team_draw_once, team_post_once, team_post_all_once}
-use Rattle.results.specs.Seen.{Sees}
+use Rattle.results.specs.Seen.{Shows}
 use Rattle.contracts.specs.Unique.{One, OneWith, Three, NoFreedom}
 use Rattle.contracts.proofs.Strata.{plan_once, starts_once, strata_draw_once, strata_project_once}
 use Rattle.contracts.proofs.Totals.{builds_once, totals_once, finds_once, changes_once, appends_once, checks_once}
 
--- the answers of the steps
-level_made : (r : LevelAnswer) → Made level.Known level.Refused r
-level_made (level.Known a) = good a
-level_made (level.Refused why) = bad why
-
-ledger_made : (r : LedgerAnswer) → Made ledger.Total ledger.Refused r
-ledger_made (ledger.Total a) = good a
-ledger_made (ledger.Refused why) = bad why
-
-size_made : (r : SizeAnswer) → Made size.Draws size.Refused r
-size_made (size.Draws a) = good a
-size_made (size.Refused why) = bad why
-
-start_made : (r : StartAnswer) → Made start.Started start.Refused r
-start_made (start.Started a) = good a
-start_made (start.Refused why) = bad why
-
-project_made : (r : ProjectAnswer) → Made project.Projected project.Refused r
-project_made (project.Projected a) = good a
-project_made (project.Refused why) = bad why
-
-judge_made : (r : JudgeAnswer) → Made judge.Judged judge.Refused r
-judge_made (judge.Judged a) = good a
-judge_made (judge.Refused why) = bad why
-
--- an answer of the projection is what it says
-project_answer : {o : Outcome Projection} (r s : ProjectAnswer) → project_says r ≡ o → project_says s ≡ o → r ≡ s
-project_answer = one_answer project_says project.Projected project.Refused (λ a. refl) (λ why. refl) project_made
-
 -- the operations that C has too
 size_once : (percent total te ae : ℕ) → One (SizePromise percent total te ae)
-size_once _ _ _ _ r s p q = one_answer size_says size.Draws size.Refused (λ a. refl) (λ why. refl) size_made r s p.answer q.answer
+size_once _ _ _ _ r s p q = says_once r s p.answer q.answer
 
 splits_once : (ledger : List ℕ) (n : ℕ) (marks : List ℕ) → OneWith (SplitPromise ledger n marks)
 splits_once _ _ _ _ _ _ _ p q = split_once p q
 
 start_once : (J : ℕ) (words : List ℕ) → One (StartPromise J words)
-start_once _ _ r s p q = one_answer start_says start.Started start.Refused (λ a. refl) (λ why. refl) start_made r s p.answer q.answer
+start_once _ _ r s p q = says_once r s p.answer q.answer
 
 draws_once : (ledger : List ℕ) (n start : ℕ) (marks : List ℕ) → OneWith (DrawPromise ledger n start marks)
 draws_once _ _ _ _ _ _ _ _ p q = draw_once p q
 
 project_once : (ledger : List ℕ) (n start : ℕ) (errors : List ℤ) → One (ProjectPromise ledger n start errors)
-project_once _ _ _ _ r s p q = project_answer r s p.answer q.answer
+project_once _ _ _ _ r s p q = says_once r s p.answer q.answer
 
 lines_once : (ledger : List ℕ) (n start : ℕ) (errors amounts : List ℤ) → OneWith (LinesPromise ledger n start errors amounts)
-lines_once _ _ _ _ _ r s _ _ p q = (project_answer r s p.answer q.answer, p.amounts_left ∙ sym q.amounts_left)
+lines_once _ _ _ _ _ r s _ _ p q = (says_once r s p.answer q.answer, p.amounts_left ∙ sym q.amounts_left)
 
 judge_once : (percent : ℕ) (ledger : List ℕ) (n start : ℕ) (errors : List ℤ) (te : ℕ) → One (JudgePromise percent ledger n start errors te)
-judge_once _ _ _ _ _ _ r s p q = one_answer judge_says judge.Judged judge.Refused (λ a. refl) (λ why. refl) judge_made r s p.answer q.answer
+judge_once _ _ _ _ _ _ r s p q = says_once r s p.answer q.answer
 
 posts_once : (ledger marks : List ℕ) (errors : List ℤ) (line : ℕ) (error : ℤ) → OneWith (PostPromise ledger marks errors line error)
 posts_once _ _ _ _ _ _ _ _ _ p q = post_once p q
@@ -124,25 +79,25 @@ sheets_once : (input page : List ℕ) → OneWith (SheetPromise input page)
 sheets_once _ _ _ _ _ _ p q = sheet_once p q
 
 -- where a promise leaves one answer, it leaves one result for C
-module _ {A O R : Type 0} {shows : O → R} {says : A → O} where
-  sees : {Promise : A → Type 0} → One Promise → One (Sees shows says Promise)
-  sees one _ _ p q = p.shown ∙ ap (λ a. shows (says a)) (one _ _ p.promised q.promised) ∙ sym q.shown
+module _ {A R : Type 0} {shows : A → R} where
+  sees : {Promise : A → Type 0} → One Promise → One (Shows shows Promise)
+  sees one _ _ p q = p.shown ∙ ap shows (one _ _ p.promised q.promised) ∙ sym q.shown
 
-  sees_with : {B : Type 0} {Promise : A → B → Type 0} → OneWith Promise → OneWith (λ r b. Sees shows says (λ a. Promise a b) r)
+  sees_with : {B : Type 0} {Promise : A → B → Type 0} → OneWith Promise → OneWith (λ r b. Shows shows (λ a. Promise a b) r)
   sees_with one _ _ b c p q =
       let same = one _ _ b c p.promised q.promised in
-      (p.shown ∙ ap (λ a. shows (says a)) same.0 ∙ sym q.shown, same.1)
+      (p.shown ∙ ap shows same.0 ∙ sym q.shown, same.1)
 
 pub no_freedom : NoFreedom
 no_freedom =
     record {
       tell = λ _ _ _ p q. p ∙ sym q;
-      level = λ _ r s p q. one_answer level_says level.Known level.Refused (λ a. refl) (λ why. refl) level_made r s p.answer q.answer;
-      ledger = λ _ _ r s p q. one_answer ledger_says ledger.Total ledger.Refused (λ a. refl) (λ why. refl) ledger_made r s p.answer q.answer;
+      level = λ _ r s p q. says_once r s p.answer q.answer;
+      ledger = λ _ _ r s p q. says_once r s p.answer q.answer;
       size = size_once;
       split = splits_once;
-      figures = λ _ _ _ r s p q. split_answer r s p.answer q.answer;
-      figures_for = λ _ _ _ _ r s p q. split_answer r s p.answer q.answer;
+      figures = λ _ _ _ r s p q. says_once r s p.answer q.answer;
+      figures_for = λ _ _ _ _ r s p q. says_once r s p.answer q.answer;
       start = start_once;
       draw = draws_once;
       project = project_once;

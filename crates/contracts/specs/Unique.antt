@@ -1,32 +1,34 @@
 -- What it means that the promises of the public operations leave no freedom: any two results that meet one, refused or not, agree in the answer
 -- and in each lent buffer. Each promise is the one that the operation's own contract cites. Definitions: nothing is assumed.
-use Rattle.std.specs.Prelude.{ℕ, ◌≡◌, Bool, true, List, ℤ}
+use Rattle.std.specs.Prelude.{ℕ, ◌≡◌, Bool, true, List, ℤ, Result}
+use Rattle.terms.specs.Outcome.{says}
+use Rattle.salvaging.specs.declared.Salvaged.{Salvaged}
+use Rattle.judge.specs.declared.Judgement.{Judgement}
 use Rattle.terms.specs.declared.Refusal.{Refusal}
 use Rattle.terms.specs.Refusals.{tells}
 use Rattle.factors.specs.Levels.{LevelPromise}
 use Rattle.ledger.specs.Ledger.{LedgerPromise}
-use Rattle.size.specs.Size.{size_says, SizePromise}
-use Rattle.split.specs.Split.{split_says, SplitPromise, FiguresPromise}
+use Rattle.size.specs.Size.{SizePromise}
+use Rattle.split.specs.Split.{SplitPromise, FiguresPromise}
 use Rattle.split.specs.Start.{FiguresForPromise}
-use Rattle.start.specs.Start.{start_says, StartPromise}
-use Rattle.draw.specs.Draw.{draw_says, DrawPromise}
-use Rattle.project.specs.Project.{project_says, ProjectPromise}
+use Rattle.start.specs.Start.{StartPromise}
+use Rattle.draw.specs.Draw.{DrawPromise}
+use Rattle.project.specs.Project.{ProjectPromise}
 use Rattle.lines.specs.Each.{LinesPromise}
-use Rattle.blackboard.specs.Draw.{board_draw_says, BoardDrawPromise}
-use Rattle.blackboard.specs.Project.{board_project_says, BoardProjectPromise}
-use Rattle.findings.specs.Findings.{post_says, PostPromise}
+use Rattle.blackboard.specs.Draw.{BoardDrawPromise}
+use Rattle.blackboard.specs.Project.{BoardProjectPromise}
+use Rattle.findings.specs.Findings.{PostPromise}
 use Rattle.findings.specs.Batch.{PostAllPromise}
 use Rattle.teams.specs.Teams.{TeamSplitPromise, TeamDrawPromise, TeamPostPromise, TeamPostAllPromise}
-use Rattle.totals.specs.Summary.{total_says, BuildPromise, TotalPromise}
-use Rattle.totals.specs.Lookup.{find_says, FindPromise}
-use Rattle.totals.specs.Comparison.{check_says, CheckPromise}
-use Rattle.upkeep.specs.Upkeep.{count_says, ChangePromise, AppendPromise}
-use Rattle.judge.specs.Judge.{judge_says, JudgePromise}
-use Rattle.judge.specs.declared.JudgeAnswer.{JudgeAnswer}
-use Rattle.season.specs.declared.{Entry.Entry, Tally.Tally}
-use Rattle.season.specs.Tally.{no_tally}
+use Rattle.totals.specs.Summary.{BuildPromise, TotalPromise}
+use Rattle.totals.specs.Lookup.{FindPromise}
+use Rattle.totals.specs.Comparison.{CheckPromise}
+use Rattle.upkeep.specs.Upkeep.{ChangePromise, AppendPromise}
+use Rattle.judge.specs.Judge.{JudgePromise}
+use Rattle.season.specs.declared.Tally.{Tally}
+use Rattle.season.specs.Tally.{Entry, no_tally}
 use Rattle.season.specs.Add.{entry_of, add_of, AddPromise}
-use Rattle.attributes.specs.Attributes.{items_says, bound_says, ItemsPromise, BoundPromise}
+use Rattle.attributes.specs.Attributes.{ItemsPromise, BoundPromise}
 use Rattle.confidence.specs.Confidence.{statement_text}
 use Rattle.confidence.specs.Line.{LinePromise}
 use Rattle.filing.specs.Filing.{files_of}
@@ -38,13 +40,12 @@ use Rattle.stratified.specs.Marks.{DrawStrataPromise}
 use Rattle.stratified.specs.Projection.{project_strata_of, ProjectStrataPromise}
 use Rattle.steps.specs.Steps.{StepsPromise}
 use Rattle.workfile.specs.declared.Plan.{Plan}
-use Rattle.workfile.specs.Promises.{read_says, write_says, ReadPromise, WritePromise}
+use Rattle.workfile.specs.Promises.{ReadPromise, WritePromise}
 use Rattle.roundtrip.specs.RoundTrip.{WriteThenRead, ReadThenWrite}
 use Rattle.pen.specs.Page.{Printed}
-use Rattle.salvaging.specs.declared.SalvageAnswer.{SalvageAnswer}
-use Rattle.salvaging.specs.Salvage.{salvage_says, SalvagePromise}
+use Rattle.salvaging.specs.Salvage.{SalvagePromise}
 use Rattle.report.specs.Report.{report_text}
-use Rattle.sheet.specs.Sheet.{desk_text, sheet_says, SheetPromise}
+use Rattle.sheet.specs.Sheet.{desk_text, SheetPromise}
 use Rattle.entry.specs.declared.Notation.{Notation}
 use Rattle.notation.specs.declared.Fault.{Fault}
 use Rattle.notation.specs.Parse.{ParsePromise}
@@ -52,7 +53,7 @@ use Rattle.faults.specs.Faults.{fault_text}
 use Rattle.divided.specs.Divided.{divided_of, stored_in}
 use Rattle.starts.specs.Starts.{starts_of, StartsPromise}
 use Rattle.reply.specs.Reply.{reply_of, ReplyPromise}
-use Rattle.results.specs.Seen.{Sees}
+use Rattle.results.specs.Seen.{Sees, Shows}
 use Rattle.results.specs.Results.{size_seen, split_seen, start_seen, draw_seen, project_seen, judge_seen, read_seen, write_seen, sheet_seen}
 use Rattle.results.specs.Walked.{board_project_seen}
 use Rattle.results.specs.Control.{items_seen, bound_seen}
@@ -101,7 +102,7 @@ pub record NoFreedom : Type 0 where
   pub strata_draw : (ledger counts : List ℕ) (n : ℕ) (starts marks : List ℕ) → OneWith (DrawStrataPromise ledger counts n starts marks)
   pub strata_project : (ledger counts : List ℕ) (n : ℕ) (starts : List ℕ) (errors : List ℤ) → One (ProjectStrataPromise (project_strata_of ledger counts n starts errors))
   -- the tally of a season: whatever tally and entry are handed in
-  pub tally_entry : (level book : ℕ) (answer : JudgeAnswer) → One (λ r. r ≡ entry_of level book answer)
+  pub tally_entry : (level book : ℕ) (answer : Result Judgement Refusal) → One (λ r. r ≡ entry_of level book answer)
   pub tally_none : One (λ r. r ≡ no_tally)
   pub tally_add : (tally : Tally) (entry : Entry) → One (AddPromise tally (add_of tally entry))
   pub tally_files : (files : List ℕ) → One (AddPromise no_tally (files_of files))
@@ -134,7 +135,7 @@ pub record NoFreedom : Type 0 where
       → OneWith (λ r (b : List ℕ × Three). WriteThenRead plan words values errors file words-before values-before errors-before r b.0 b.1.0 b.1.1 b.1.2)
   pub read_then_write : (file again : List ℕ) → OneWith (ReadThenWrite file again)
   pub salvage : (file out : List ℕ) → OneWith (SalvagePromise file out)
-  pub salvage_report : (answer : SalvageAnswer) (page : List ℕ) → OneWith (Printed (report_text (salvage_says answer)) page)
+  pub salvage_report : (answer : Result Salvaged Refusal) (page : List ℕ) → OneWith (Printed (report_text (says answer)) page)
   pub sheet : (input page : List ℕ) → OneWith (Printed (desk_text input) page)
   pub sheet_in : (input page : List ℕ) → OneWith (SheetPromise input page)
   pub parse : (by : Notation) (text words values : List ℕ) (errors : List ℤ) → OneWith (λ r (b : Three). ParsePromise by text words values errors r b.0 b.1 b.2)
@@ -143,50 +144,50 @@ pub record NoFreedom : Type 0 where
   pub starts : (rows : List Row) (words : List ℕ) → One (StartsPromise (starts_of rows words))
   pub reply : (text page : List ℕ) → OneWith (ReplyPromise (reply_of text) page)
   -- the exports
-  pub mus_size : (percent total te ae : ℕ) → One (Sees size_seen size_says (SizePromise percent total te ae))
-  pub mus_split : (ledger : List ℕ) (n : ℕ) (marks : List ℕ) → OneWith (λ r b. Sees split_seen split_says (λ a. SplitPromise ledger n marks a b) r)
-  pub mus_start : (J : ℕ) (words : List ℕ) → One (Sees start_seen start_says (StartPromise J words))
-  pub mus_draw : (ledger : List ℕ) (n start : ℕ) (marks : List ℕ) → OneWith (λ r b. Sees draw_seen draw_says (λ a. DrawPromise ledger n start marks a b) r)
-  pub mus_project : (ledger : List ℕ) (n start : ℕ) (errors : List ℤ) → One (Sees project_seen project_says (ProjectPromise ledger n start errors))
+  pub mus_size : (percent total te ae : ℕ) → One (Sees size_seen (SizePromise percent total te ae))
+  pub mus_split : (ledger : List ℕ) (n : ℕ) (marks : List ℕ) → OneWith (λ r b. Sees split_seen (λ a. SplitPromise ledger n marks a b) r)
+  pub mus_start : (J : ℕ) (words : List ℕ) → One (Sees start_seen (StartPromise J words))
+  pub mus_draw : (ledger : List ℕ) (n start : ℕ) (marks : List ℕ) → OneWith (λ r b. Sees draw_seen (λ a. DrawPromise ledger n start marks a b) r)
+  pub mus_project : (ledger : List ℕ) (n start : ℕ) (errors : List ℤ) → One (Sees project_seen (ProjectPromise ledger n start errors))
   pub mus_project_lines : (ledger : List ℕ) (n start : ℕ) (errors amounts : List ℤ)
-      → OneWith (λ r b. Sees project_seen project_says (λ a. LinesPromise ledger n start errors amounts a b) r)
-  pub mus_board_draw : (ledger : List ℕ) (n start : ℕ) (marks : List ℕ) → OneWith (λ r b. Sees draw_seen board_draw_says (λ a. BoardDrawPromise ledger n start marks a b) r)
-  pub mus_board_project : (ledger : List ℕ) (n start : ℕ) (errors : List ℤ) → One (Sees board_project_seen board_project_says (BoardProjectPromise ledger n start errors))
+      → OneWith (λ r b. Sees project_seen (λ a. LinesPromise ledger n start errors amounts a b) r)
+  pub mus_board_draw : (ledger : List ℕ) (n start : ℕ) (marks : List ℕ) → OneWith (λ r b. Sees draw_seen (λ a. BoardDrawPromise ledger n start marks a b) r)
+  pub mus_board_project : (ledger : List ℕ) (n start : ℕ) (errors : List ℤ) → One (Sees board_project_seen (BoardProjectPromise ledger n start errors))
   pub mus_judge : (percent : ℕ) (ledger : List ℕ) (n start : ℕ) (errors : List ℤ) (te : ℕ)
-      → One (Sees judge_seen judge_says (JudgePromise percent ledger n start errors te))
-  pub mus_strata_plan : (ledger counts : List ℕ) (n : ℕ) → One (Sees strata_plan_seen (λ a. a) (PlanPromise (plan_of ledger counts n true)))
+      → One (Sees judge_seen (JudgePromise percent ledger n start errors te))
+  pub mus_strata_plan : (ledger counts : List ℕ) (n : ℕ) → One (Sees strata_plan_seen (PlanPromise (plan_of ledger counts n true)))
   pub mus_strata_draw : (ledger counts : List ℕ) (n : ℕ) (starts marks : List ℕ)
-      → OneWith (λ r b. Sees strata_draw_seen draw_says (λ a. DrawStrataPromise ledger counts n starts marks a b) r)
+      → OneWith (λ r b. Sees strata_draw_seen (λ a. DrawStrataPromise ledger counts n starts marks a b) r)
   pub mus_strata_project : (ledger counts : List ℕ) (n : ℕ) (starts : List ℕ) (errors : List ℤ)
-      → One (Sees strata_project_seen (λ a. a) (ProjectStrataPromise (project_strata_of ledger counts n starts errors)))
+      → One (Sees strata_project_seen (ProjectStrataPromise (project_strata_of ledger counts n starts errors)))
   pub mus_tally_none : One (λ r. r ≡ no_tally)
   pub mus_tally_add : (tally : Tally) (level book limit verdict : ℕ)
-      → One (Sees tally_seen (λ a. a) (AddPromise tally (add_of tally (entry_from level book limit verdict))))
-  pub mus_attribute_size : (level tolerance : ℕ) → One (Sees items_seen items_says (ItemsPromise level tolerance))
-  pub mus_attribute_bound : (level tolerance exceptions : ℕ) → One (Sees bound_seen bound_says (BoundPromise level tolerance exceptions))
+      → One (Shows tally_seen (AddPromise tally (add_of tally (entry_from level book limit verdict))))
+  pub mus_attribute_size : (level tolerance : ℕ) → One (Sees items_seen (ItemsPromise level tolerance))
+  pub mus_attribute_bound : (level tolerance exceptions : ℕ) → One (Sees bound_seen (BoundPromise level tolerance exceptions))
   pub mus_post : (ledger marks : List ℕ) (errors : List ℤ) (line : ℕ) (error : ℤ)
-      → OneWith (λ r b. Sees post_seen post_says (λ a. PostPromise ledger marks errors line error a b) r)
+      → OneWith (λ r b. Sees post_seen (λ a. PostPromise ledger marks errors line error a b) r)
   pub mus_post_all : (ledger marks : List ℕ) (errors : List ℤ) (lines : List ℕ) (found : List ℤ)
-      → OneWith (λ r b. Sees post_seen post_says (λ a. PostAllPromise ledger marks errors lines found a b) r)
+      → OneWith (λ r b. Sees post_seen (λ a. PostAllPromise ledger marks errors lines found a b) r)
   pub mus_team_split : (team : ℕ) (ledger : List ℕ) (n : ℕ) (marks : List ℕ)
-      → OneWith (λ r b. Sees split_seen split_says (λ a. TeamSplitPromise team ledger n marks a b) r)
+      → OneWith (λ r b. Sees split_seen (λ a. TeamSplitPromise team ledger n marks a b) r)
   pub mus_team_draw : (team : ℕ) (ledger : List ℕ) (n start : ℕ) (marks : List ℕ)
-      → OneWith (λ r b. Sees draw_seen draw_says (λ a. TeamDrawPromise team ledger n start marks a b) r)
+      → OneWith (λ r b. Sees draw_seen (λ a. TeamDrawPromise team ledger n start marks a b) r)
   pub mus_team_post : (team : ℕ) (ledger marks : List ℕ) (errors : List ℤ) (line : ℕ) (error : ℤ)
-      → OneWith (λ r b. Sees post_seen post_says (λ a. TeamPostPromise team ledger marks errors line error a b) r)
+      → OneWith (λ r b. Sees post_seen (λ a. TeamPostPromise team ledger marks errors line error a b) r)
   pub mus_team_post_all : (team : ℕ) (ledger marks : List ℕ) (errors : List ℤ) (lines : List ℕ) (found : List ℤ)
-      → OneWith (λ r b. Sees post_seen post_says (λ a. TeamPostAllPromise team ledger marks errors lines found a b) r)
-  pub mus_totals_build : (room : List ℕ) (count : ℕ) (summary : List ℕ) → OneWith (λ r b. Sees totals_build_seen total_says (λ a. BuildPromise room count summary a b) r)
-  pub mus_totals_total : (room : List ℕ) (count : ℕ) (summary : List ℕ) → One (Sees totals_total_seen total_says (TotalPromise room count summary))
-  pub mus_totals_find : (room : List ℕ) (count : ℕ) (summary : List ℕ) (cent : ℕ) → One (Sees totals_find_seen find_says (FindPromise room count summary cent))
+      → OneWith (λ r b. Sees post_seen (λ a. TeamPostAllPromise team ledger marks errors lines found a b) r)
+  pub mus_totals_build : (room : List ℕ) (count : ℕ) (summary : List ℕ) → OneWith (λ r b. Sees totals_build_seen (λ a. BuildPromise room count summary a b) r)
+  pub mus_totals_total : (room : List ℕ) (count : ℕ) (summary : List ℕ) → One (Sees totals_total_seen (TotalPromise room count summary))
+  pub mus_totals_find : (room : List ℕ) (count : ℕ) (summary : List ℕ) (cent : ℕ) → One (Sees totals_find_seen (FindPromise room count summary cent))
   pub mus_totals_change : (room : List ℕ) (count : ℕ) (summary : List ℕ) (line value : ℕ)
-      → OneWith (λ r (b : Two). Sees totals_change_seen total_says (λ a. ChangePromise room count summary line value a b.0 b.1) r)
+      → OneWith (λ r (b : Two). Sees totals_change_seen (λ a. ChangePromise room count summary line value a b.0 b.1) r)
   pub mus_totals_append : (room : List ℕ) (count : ℕ) (summary : List ℕ) (value : ℕ)
-      → OneWith (λ r (b : Two). Sees totals_append_seen count_says (λ a. AppendPromise room count summary value a b.0 b.1) r)
-  pub mus_totals_check : (room : List ℕ) (count : ℕ) (summary : List ℕ) → One (Sees totals_check_seen check_says (CheckPromise room count summary))
+      → OneWith (λ r (b : Two). Sees totals_append_seen (λ a. AppendPromise room count summary value a b.0 b.1) r)
+  pub mus_totals_check : (room : List ℕ) (count : ℕ) (summary : List ℕ) → One (Sees totals_check_seen (CheckPromise room count summary))
   pub mus_read : (file words values : List ℕ) (errors : List ℤ)
-      → OneWith (λ r (b : Three). Sees read_seen read_says (λ a. ReadPromise file words values errors a b.0 b.1 b.2) r)
+      → OneWith (λ r (b : Three). Sees read_seen (λ a. ReadPromise file words values errors a b.0 b.1 b.2) r)
   pub mus_write : (plan : Plan) (words values : List ℕ) (errors : List ℤ) (file : List ℕ)
-      → OneWith (λ r b. Sees write_seen write_says (λ a. WritePromise plan words values errors file a b) r)
-  pub mus_salvage : (file out : List ℕ) → OneWith (λ r b. Sees salvage_seen salvage_says (λ a. SalvagePromise file out a b) r)
-  pub mus_sheet : (input page : List ℕ) → OneWith (λ r b. Sees sheet_seen sheet_says (λ a. SheetPromise input page a b) r)
+      → OneWith (λ r b. Sees write_seen (λ a. WritePromise plan words values errors file a b) r)
+  pub mus_salvage : (file out : List ℕ) → OneWith (λ r b. Sees salvage_seen (λ a. SalvagePromise file out a b) r)
+  pub mus_sheet : (input page : List ℕ) → OneWith (λ r b. Sees sheet_seen (λ a. SheetPromise input page a b) r)

@@ -1,5 +1,7 @@
 -- What a batch posts by the marks of a draw is what the projection takes, of every ledger, n and start. Assumes nothing.
 use Prim.Native.Nat.{ℕ, ◌<◌}
+use Rattle.terms.specs.declared.Refusal.{Refusal}
+use Rattle.std.specs.Prelude.{Result, Ok}
 use native.Mathlib.Omega.{arith}
 use mathlib.Core.Path.{◌≡◌, refl, sym, ap, subst, ◌∙◌}
 use mathlib.Core.List.{List}
@@ -14,7 +16,6 @@ use Rattle.signed.proofs.Laws.{parts_at, part_is_size, size_none}
 use Rattle.split.specs.declared.Figures.{Figures}
 use Rattle.split.specs.Start.{figures_for}
 use Rattle.split.proofs.Start.{start_facts}
-use Rattle.draw.specs.declared.DrawAnswer.TheVariants.{Drawn}
 use Rattle.draw.specs.Row.{marks_from, draw_marks}
 use Rattle.draw.specs.Draw.{DrawPromise}
 use Rattle.draw.proofs.Laws.{draw_marks_lem, marks_length, marks_started, draw_accepted}
@@ -23,8 +24,6 @@ use Rattle.project.specs.Lines.{lines_from}
 use Rattle.project.specs.Project.{checked_from, checked_lines, both_kinds, projection_at, project_of}
 use Rattle.project.proofs.Lines.{lines_of_lem}
 use Rattle.project.proofs.Laws.{checked_of, projection_refused, project_from, project_facts}
-use Rattle.findings.specs.declared.PostAnswer.{PostAnswer}
-use Rattle.findings.specs.declared.PostAnswer.TheVariants.{Posted}
 use Rattle.findings.specs.Findings as findings
 use Rattle.findings.specs.Batch.{PostAllPromise}
 use Rattle.findings.proofs.Rules.{placed_none}
@@ -84,7 +83,7 @@ module _ (J start : ℕ) (ledger : List ℕ) (errors : List ℤ) where
       by (refused n p) e = let f = refused_not n p e in absurd (f.1 (all p f.0))
 
 -- after a draw
-module _ (ledger : List ℕ) (n start : ℕ) (former : List ℕ) (drawn : ℕ) (marks : List ℕ) (promise : DrawPromise ledger n start former (Drawn drawn) marks) where
+module _ (ledger : List ℕ) (n start : ℕ) (former : List ℕ) (drawn : ℕ) (marks : List ℕ) (promise : DrawPromise ledger n start former (Ok drawn) marks) where
   started : (f : Figures) × (figures_for ledger n start (length former) ≡ accepted f)
   started = draw_accepted ledger n start (length former) drawn (sym promise.answer)
 
@@ -116,7 +115,7 @@ module _ (ledger : List ℕ) (n start : ℕ) (former : List ℕ) (drawn : ℕ) (
   projected : (errors : List ℤ) → length errors ≡ length ledger → ((line : ℕ) → line < length ledger → Fine errors line) → (p : Projection) × (project_of ledger n start errors ≡ accepted p)
   projected errors same all = let p = all_accepted J start ledger errors all in (p.0, sym (at_interval errors same) ∙ p.1)
 
-  no_line : (errors : List ℤ) (lines : List ℕ) (found : List ℤ) (pairs : ℕ) (errors' : List ℤ) → PostAllPromise ledger marks errors lines found (Posted pairs) errors' →
+  no_line : (errors : List ℤ) (lines : List ℕ) (found : List ℤ) (pairs : ℕ) (errors' : List ℤ) → PostAllPromise ledger marks errors lines found (Ok pairs) errors' →
       (position number : ℕ) → position < length lines → ¬ (project_of ledger n start errors' ≡ refused number (get_or lines position 0))
   no_line errors lines found pairs errors' posted position number h e =
       let says = sym posted.answer in
@@ -133,7 +132,7 @@ module _ (ledger : List ℕ) (n start : ℕ) (former : List ℕ) (drawn : ℕ) (
       let zero_is : size_of (get_or errors line (pos 0)) ≡ 0 = ap size_of (none line) ∙ size_none in
       record { inside = inside; within = omega (arith, zero_is); marked = sym (placed_none (get_or (draw_marks J start ledger) line 0) (size_of (get_or errors line (pos 0))) zero_is) })
 
-  kept_by : (errors : List ℤ) (lines : List ℕ) (found : List ℤ) (r : PostAnswer) (errors' : List ℤ) → PostAllPromise ledger marks errors lines found r errors' →
+  kept_by : (errors : List ℤ) (lines : List ℕ) (found : List ℤ) (r : Result ℕ Refusal) (errors' : List ℤ) → PostAllPromise ledger marks errors lines found r errors' →
       (p : Projection) → project_of ledger n start errors ≡ accepted p → (q : Projection) × (project_of ledger n start errors' ≡ accepted q)
   kept_by errors lines found r errors' posted p e =
       let same = (project_facts ledger n start errors p e).started.facts.ledger_good.same in

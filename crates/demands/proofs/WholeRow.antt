@@ -3,17 +3,22 @@ use Prim.Native.Nat.{ℕ, zero, suc, ◌≤◌, ◌<◌, zero-le}
 use mathlib.Core.Path.{◌≡◌, ap, ◌∙◌}
 use mathlib.Core.List.{List, [], ◌∷◌}
 use native.Mathlib.Omega.{arith}
+use borrow.Author.Tests.{le-ltb}
 use lib.ListN.{length, get_or, take}
 use Rattle.terms.specs.Outcome.{accepted}
 use Rattle.terms.specs.Numbers.{sum, AllUpTo}
 use Rattle.terms.specs.Limits.{most_lines}
-use Rattle.draw.specs.Row.{row_cents, item_at}
+use Rattle.draw.specs.Row.{cents, row_cents, item_at}
 use Rattle.draw.proofs.Laws.{row_nil, row_more}
-use Rattle.draw.proofs.Row.{takes_all, item_only}
+use Rattle.draw.proofs.Row.{item_only}
 use Rattle.totals.specs.Summary.{in_use, Agrees}
 use Rattle.totals.specs.Lookup.{find_of, line_holding}
 use Rattle.totals.proofs.Laws.{agrees_alone}
 use Rattle.demands.specs.WholeRow.{FoundOnRow, WholeRow}
+
+-- a line that is not full has its whole value on the row
+takes_all : (J v : ℕ) → v ≤ J → v ≡ cents J v
+takes_all J v h = simp (le-ltb _ _ h)
 
 -- where no line is full the row is as long as the lines
 whole_cents : (J : ℕ) (l : List ℕ) → AllUpTo J l → row_cents J l ≡ sum l

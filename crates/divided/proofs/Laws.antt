@@ -19,8 +19,8 @@ use Rattle.notation.proofs.Laws.{line_in, lines_told, lines_counted}
 use Rattle.divided.specs.Divided.{part_of, parts_in, parts_of, lines_before, counts_of, order_of, opened_by, late_by, go_on, ordered_from, divided_of, laid}
 use Rattle.divided.specs.declared.Part.{Part}
 use Rattle.divided.specs.declared.Part.TheVariants as part
-use Rattle.divided.specs.declared.Ordered.{Ordered}
-use Rattle.divided.specs.declared.Ordered.TheVariants.{Fits, Not}
+use Rattle.std.specs.Prelude.{Result, Ok, Err}
+use Rattle.entry.specs.declared.Wrong.{Wrong}
 
 -- the lines of L among parts
 abbrev line_part : Part → ℕ
@@ -68,10 +68,10 @@ says_counts [] line opened late counts found e = cc
 says_counts (p ∷ later) line opened late counts found e =
     go (order_of opened late p) e (says_counts later (suc line) (opened_by p opened) (late_by p late) counts found)
   where
-    go : (o : Ordered) → go_on o line (ordered_from (suc line) (opened_by p opened) (late_by p late) counts later) ≡ says found
+    go : (o : Result Unit Wrong) → go_on o line (ordered_from (suc line) (opened_by p opened) (late_by p late) counts later) ≡ says found
         → (ordered_from (suc line) (opened_by p opened) (late_by p late) counts later ≡ says found → counts ≡ found) → counts ≡ found
-    go Fits f again = again f
-    go (Not wrong) f again = clash (cc)
+    go (Ok fits) f again = again f
+    go (Err wrong) f again = clash (cc)
 
 -- and has no line of L before the first S
 none_early : (parts : List Part) (line : ℕ) (late : Bool) (counts found : List ℕ) → ordered_from line false late counts parts ≡ says found → lines_before parts ≡ 0

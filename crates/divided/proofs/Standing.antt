@@ -13,14 +13,11 @@ use Rattle.entry.specs.declared.Wrong.{Wrong}
 use Rattle.entry.specs.declared.TextLine.{TextLine}
 use Rattle.entry.proofs.TextLines.{lines_at, line_later, no_lines}
 use Rattle.notation.specs.Contents.{says}
-use Rattle.divided.specs.Divided.{part_of, parts_in, parts_of, lines_before, counts_of, order_of, opened_by, late_by, go_on, ordered_from, divided_of, no_counts, faulty_at, stored_in}
+use Rattle.divided.specs.Divided.{part_of, parts_in, parts_of, lines_before, counts_of, order_of, opened_by, late_by, go_on, ordered_from, divided_of, no_counts, stored_in}
 use Rattle.divided.specs.Steps.{no_strata, counts_with, part_taken}
 use Rattle.divided.specs.declared.Part.{Part}
-use Rattle.divided.specs.declared.Ordered.{Ordered}
-use Rattle.divided.specs.declared.Ordered.TheVariants.{Fits, Not}
 use Rattle.divided.specs.declared.Dividing.{Dividing}
-use Rattle.divided.specs.declared.Divided.{Divided}
-use Rattle.divided.specs.declared.DividedAnswer.TheVariants.{InStrata}
+use Rattle.std.specs.Prelude.{Result, Ok, Err}
 use Rattle.divided.proofs.Counting.{laid_none, runs_of, Keeps, done_with, keeps_on, runs_on, opened_on, late_on, few_on, all_closed}
 
 -- the parts of the lines from a place on
@@ -74,34 +71,34 @@ module _ {text : List ℕ} {at line : ℕ} {s : Dividing} (st : Stands text at l
     pub rooms : length text < 2 ^ 64 → (s.strata + 1 < 2 ^ 64) × (s.lines + 1 < 2 ^ 64)
     rooms h = (omega (arith, st.few_strata), omega (arith, st.few_lines))
 
-    module _ {o : Ordered} (order : o ≡ order_of (ltb 0 s.strata) s.late part) where
+    module _ {o : Result Unit Wrong} (order : o ≡ order_of (ltb 0 s.strata) s.late part) where
       here : divided_of text ≡ go_on o line (ordered_from (suc line) (opened_by part (ltb 0 s.strata)) (late_by part s.late) (counts_of (parts_of text)) (parts_at text l.next))
       unfolding ordered_from
       here =
           sym st.same ∙ ap (ordered_from line (ltb 0 s.strata) s.late (counts_of (parts_of text))) parted
-          ∙ ap (λ (q : Ordered). go_on q line (ordered_from (suc line) (opened_by part (ltb 0 s.strata)) (late_by part s.late) (counts_of (parts_of text)) (parts_at text l.next))) (sym order)
+          ∙ ap (λ (q : Result Unit Wrong). go_on q line (ordered_from (suc line) (opened_by part (ltb 0 s.strata)) (late_by part s.late) (counts_of (parts_of text)) (parts_at text l.next))) (sym order)
 
-      after : (q : Ordered) → o ≡ q → divided_of text ≡ go_on q line (ordered_from (suc line) (opened_by part (ltb 0 s.strata)) (late_by part s.late) (counts_of (parts_of text)) (parts_at text l.next))
-      after q e = here ∙ ap (λ (q : Ordered). go_on q line (ordered_from (suc line) (opened_by part (ltb 0 s.strata)) (late_by part s.late) (counts_of (parts_of text)) (parts_at text l.next))) e
+      after : (q : Result Unit Wrong) → o ≡ q → divided_of text ≡ go_on q line (ordered_from (suc line) (opened_by part (ltb 0 s.strata)) (late_by part s.late) (counts_of (parts_of text)) (parts_at text l.next))
+      after q e = here ∙ ap (λ (q : Result Unit Wrong). go_on q line (ordered_from (suc line) (opened_by part (ltb 0 s.strata)) (late_by part s.late) (counts_of (parts_of text)) (parts_at text l.next))) e
 
-      pub out_of_order : {wrong : Wrong} → o ≡ Not wrong → {r : Divided} → r ≡ faulty_at line wrong → r ≡ stored_in (divided_of text)
+      pub out_of_order : {wrong : Wrong} → o ≡ Err wrong → Err (record { line = line; wrong = wrong }) ≡ stored_in (divided_of text)
       unfolding stored_in
-      out_of_order {wrong} e f = f ∙ sym (ap stored_in (after (Not wrong) e))
+      out_of_order {wrong} e = sym (ap stored_in (after (Err wrong) e))
 
-      onward_as : o ≡ Fits → Stands text l.next (line + 1) (part_taken s part)
+      onward_as : o ≡ Ok tt → Stands text l.next (line + 1) (part_taken s part)
       onward_as e =
           record {
             done = done_with s part st.done;
             keeps = keeps_on s part st.done st.keeps;
             runs = st.runs ∙ ap (λ (ps : List Part). st.done ++ ((s.lines + lines_before ps) ∷ counts_of ps)) parted ∙ runs_on s part st.done (parts_at text l.next);
-            same = (λ i. ordered_from (add-one line i) (sym (opened_on s part) i) (sym (late_on s part) i) (counts_of (parts_of text)) (parts_at text l.next)) ∙ sym (after Fits e);
+            same = (λ i. ordered_from (add-one line i) (sym (opened_on s part) i) (sym (late_on s part) i) (counts_of (parts_of text)) (parts_at text l.next)) ∙ sym (after (Ok tt) e);
             within = omega (arith, place, line_later text inside);
             passed = omega (arith, place, line_later text inside, st.passed);
             few_strata = omega (arith, place, line_later text inside, st.few_strata, few_on s part);
             few_lines = omega (arith, place, line_later text inside, st.few_lines, few_on s part);
           }
 
-      pub onward : o ≡ Fits → {next : Dividing} → next ≡ part_taken s part → Stands text l.next (line + 1) next
+      pub onward : o ≡ Ok tt → {next : Dividing} → next ≡ part_taken s part → Stands text l.next (line + 1) next
       onward e f = subst (Stands text l.next (line + 1)) (sym f) (onward_as e)
 
   -- at the end
@@ -118,8 +115,8 @@ module _ {text : List ℕ} {at line : ℕ} {s : Dividing} (st : Stands text at l
     unfolding lines_before counts_of
     ran = st.runs ∙ ap (λ (ps : List Part). st.done ++ ((s.lines + lines_before ps) ∷ counts_of ps)) none_left
 
-    pub finished : {n : ℕ} {counts : List ℕ} → n ≡ s.strata → counts ≡ counts_with s → record { answer = InStrata n; counts = counts } ≡ stored_in (divided_of text)
+    pub finished : {n : ℕ} {counts : List ℕ} → n ≡ s.strata → counts ≡ counts_with s → Ok (record { strata = n; counts = counts }) ≡ stored_in (divided_of text)
     unfolding stored_in
     finished f e =
         let all = all_closed s st.done (counts_of (parts_of text)) st.keeps (lines_before (parts_of text)) ran in
-        (λ i. record { answer = InStrata ((f ∙ sym all.0) i); counts = (e ∙ sym all.1) i }) ∙ sym (ap stored_in says_all)
+        (λ i. Ok (record { strata = (f ∙ sym all.0) i; counts = (e ∙ sym all.1) i })) ∙ sym (ap stored_in says_all)

@@ -1,12 +1,13 @@
 -- The strata of a text: what each line is to them, where it may stand, and how many lines each stratum has. Definitions: nothing is assumed.
-use Rattle.std.specs.Prelude.{ℕ, suc, Bool, true, false, not, List, [], ◌∷◌, map, length, replicate}
+use Rattle.std.specs.Prelude.{ℕ, suc, Bool, true, false, not, List, [], ◌∷◌, map, length, replicate, Result, Ok, Err}
 use Rattle.terms.specs.Numbers.{pick}
 use Rattle.workfile.specs.declared.FileRecord.{FileRecord}
 use Rattle.entry.specs.Text.{text_lines}
 use Rattle.entry.specs.Records.{record_in}
 use Rattle.entry.specs.declared.{Notation.Notation, Record.Record, Wrong.Wrong}
 use Rattle.notation.specs.Contents.{Reading, says, faulty}
-use Rattle.divided.specs.declared.{Part.Part, Ordered.Ordered, DividedAnswer.DividedAnswer, Divided.Divided}
+use Rattle.notation.specs.declared.Fault.{Fault}
+use Rattle.divided.specs.declared.{Part.Part, Divided.Divided}
 
 -- what a line is to the strata: S, W, L, E and U, or none of these
 abbrev pub filed_part : FileRecord → Part
@@ -49,16 +50,16 @@ counts_of (Part.Word ∷ later) = counts_of later
 counts_of (Part.Error ∷ later) = counts_of later
 counts_of (Part.Other ∷ later) = counts_of later
 
-abbrev pub barred_if : Bool → Wrong → Ordered
-barred_if test wrong = pick test (Ordered.Not wrong) Ordered.Fits
+abbrev pub barred_if : Bool → Wrong → Result Unit Wrong
+barred_if test wrong = pick test (Err wrong) (Ok tt)
 
 -- An S after E or U is out of order, and so is a W after S; an L needs an S before it.
-unfoldable pub order_of : Bool → Bool → Part → Ordered
+unfoldable pub order_of : Bool → Bool → Part → Result Unit Wrong
 order_of opened late Part.Stratum = barred_if late Wrong.OutOfOrder
 order_of opened late Part.Word = barred_if opened Wrong.OutOfOrder
 order_of opened late Part.Line = barred_if (not opened) Wrong.NoStratum
-order_of opened late Part.Error = Ordered.Fits
-order_of opened late Part.Other = Ordered.Fits
+order_of opened late Part.Error = Ok tt
+order_of opened late Part.Other = Ok tt
 
 -- whether an S, and whether an E or U, is among the lines so far
 abbrev pub opened_by : Part → Bool → Bool
@@ -75,9 +76,9 @@ late_by Part.Word late = late
 late_by Part.Error late = true
 late_by Part.Other late = late
 
-abbrev pub go_on : {A : Type 0} → Ordered → ℕ → Reading A → Reading A
-go_on Ordered.Fits line rest = rest
-go_on (Ordered.Not wrong) line rest = faulty wrong line
+abbrev pub go_on : {A : Type 0} → Result Unit Wrong → ℕ → Reading A → Reading A
+go_on (Ok fits) line rest = rest
+go_on (Err wrong) line rest = faulty wrong line
 
 -- line by line, from a line's number
 unfoldable pub ordered_from : ℕ → Bool → Bool → List ℕ → List Part → Reading (List ℕ)
@@ -102,10 +103,7 @@ laid (z ∷ room) (n ∷ counts) = n ∷ laid room counts
 abbrev pub no_counts : List ℕ
 no_counts = replicate 33 0
 
-abbrev pub faulty_at : ℕ → Wrong → Divided
-faulty_at line wrong = record { answer = DividedAnswer.Faulty (record { line = line; wrong = wrong }); counts = no_counts }
-
-unfoldable pub stored_in : Reading (List ℕ) → Divided
+unfoldable pub stored_in : Reading (List ℕ) → Result Divided Fault
 unfolding laid
-stored_in (says counts) = record { answer = DividedAnswer.InStrata (length counts); counts = laid no_counts counts }
-stored_in (faulty wrong line) = faulty_at line wrong
+stored_in (says counts) = Ok (record { strata = length counts; counts = laid no_counts counts })
+stored_in (faulty wrong line) = Err (record { line = line; wrong = wrong })

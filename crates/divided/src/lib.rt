@@ -4,10 +4,10 @@
 mod parts; // parts.rt: what a line is to the strata, and what it adds
 
 ghost use Rattle.std.specs.Prelude.{◌≡◌};
-ghost use Rattle.divided.specs.Divided.{divided_of, faulty_at, stored_in};
+ghost use Rattle.divided.specs.Divided.{divided_of, stored_in};
 ghost use Rattle.divided.specs.Steps.{no_strata};
 
-use entry::{Notation, Wrong};
+use entry::Notation;
 use notation::Fault;
 
 // Lines of a text are numbered from 1.
@@ -26,13 +26,6 @@ enum Part {
     Other,
 }
 
-// Whether a line may stand where it does, or what is wrong.
-#[derive(Clone, Copy)]
-enum Ordered {
-    Fits,
-    Not(Wrong),
-}
-
 // What the lines so far say: how many S, whether E or U, the lines of L since the last S, and the counts of the strata before that.
 #[derive(Clone, Copy)]
 struct Dividing {
@@ -42,16 +35,10 @@ struct Dividing {
     counts: [u64; STORED],
 }
 
-#[derive(Clone, Copy)]
-pub enum DividedAnswer {
-    InStrata(usize),
-    Faulty(Fault),
-}
-
-// The number of strata, all of them, or the first fault; and the first counts, 0 where there is none.
+// The number of strata, all of them, and the first counts, 0 where there is none.
 #[derive(Clone, Copy)]
 pub struct Divided {
-    pub answer: DividedAnswer,
+    pub strata: usize,
     pub counts: [u64; STORED],
 }
 
@@ -67,21 +54,8 @@ fn first() -> Dividing
     }
 }
 
-fn faulty(line: usize, wrong: Wrong) -> Divided
-    ensures { result ≡ faulty_at line wrong }
-{
-    let fault = Fault {
-        line: line,
-        wrong: wrong,
-    };
-    Divided {
-        answer: DividedAnswer::Faulty(fault),
-        counts: [0; STORED],
-    }
-}
-
-// The strata of a text in the notation of a ledger in strata, or its first fault of order.
-pub fn divide(text: &[u8]) -> Divided
+// The strata of a text in the notation of a ledger in strata, or its first fault of order. By place: a line moves on by its own length.
+pub fn divide(text: &[u8]) -> Result<Divided, Fault>
     ensures { result ≡ stored_in (divided_of text.now) }
 {
     let mut at: usize = 0;
@@ -89,20 +63,18 @@ pub fn divide(text: &[u8]) -> Divided
     let mut so_far = first();
     while at < text.len() {
         let here = entry::records::line_at(text, at, Notation::Programmes);
-        let found = here.found;
-        let part = parts::part_of(found);
-        match parts::order_of(so_far.strata > 0, so_far.late, part) {
-            Ordered::Not(wrong) => return faulty(line, wrong),
-            Ordered::Fits => {
-                so_far = parts::with_part(so_far, part);
+        let part = Part::of(here.found);
+        match part.order(so_far.strata > 0, so_far.late) {
+            Err(wrong) => return Err(Fault { line, wrong }),
+            Ok(()) => {
+                so_far = so_far.with_part(part);
                 at = here.next;
                 line += 1;
             }
         }
     }
-    let counts = parts::counts_with(so_far);
-    Divided {
-        answer: DividedAnswer::InStrata(so_far.strata),
-        counts: counts,
-    }
+    Ok(Divided {
+        strata: so_far.strata,
+        counts: so_far.counts_with(),
+    })
 }

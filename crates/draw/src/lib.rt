@@ -7,15 +7,7 @@ ghost use Rattle.draw.specs.Row.{cents};
 ghost use Rattle.draw.specs.Draw.{Markable, Marked, DrawPromise};
 ghost use Rattle.draw.specs.Found.{Before, Found};
 
-use split::SplitAnswer;
 use terms::{Cent, Item, Refusal};
-
-// How many lines are drawn, or the first refusal.
-#[derive(Clone, Copy)]
-pub enum DrawAnswer {
-    Drawn(u64),
-    Refused(Refusal),
-}
 
 // The cents that a line takes up in the row: a full line takes up none.
 fn cents_of(value: u64, interval: u64) -> u64
@@ -33,33 +25,30 @@ struct Place {
 
 // From a cent of the row to the item that covers it, looked for from a place at or before it on. Where the row ends before the
 // cent it is the place after the last line.
+#[tactic(auto, using(crate::proofs::Row::searching_from, crate::proofs::Row::searching_here, crate::proofs::Row::searching_more, crate::proofs::Row::searching_end))]
 fn item_at(ledger: &[u64], interval: u64, from: Place, cent: Cent) -> Place
     requires { Before interval ledger.now cent.0 from }
     ensures { Found interval ledger.now cent.0 result }
 {
     let sought = cent.0;
-    let mut item = from.item.0;
     let mut ahead = sought - from.first.0;
-    while item < ledger.len() {
+    for item in from.item.0..ledger.len() {
         let taken = cents_of(ledger[item], interval);
         if ahead < taken {
-            let first = sought - ahead;
             return Place {
                 item: Item(item),
-                first: Cent(first),
+                first: Cent(sought - ahead),
             };
         }
         ahead -= taken;
-        item += 1;
     }
-    let first = sought - ahead;
     Place {
-        item: Item(item),
-        first: Cent(first),
+        item: Item(ledger.len()),
+        first: Cent(sought - ahead),
     }
 }
 
-// Marks the drawn lines 1, from point to point to the end of the row, and answers how many they are.
+// Marks the drawn lines 1, from point to point to the end of the row, and answers how many they are. A `while`: a turn passes a point, not a line.
 fn mark_drawn(ledger: &[u64], interval: u64, start: Cent, marks: &mut [u8]) -> u64
     requires { Markable interval ledger.now × (marks.old ≡ full_marks interval ledger.now) }
     ensures { Marked interval start.0 ledger.now result marks.new }
@@ -76,9 +65,8 @@ fn mark_drawn(ledger: &[u64], interval: u64, start: Cent, marks: &mut [u8]) -> u
         marks[item] = 1;
         drawn += 1;
         let end = here.first.0 + ledger[item];
-        let later = item + 1;
         let after = Place {
-            item: Item(later),
+            item: Item(item + 1),
             first: Cent(end),
         };
         let further = point.0 + interval;
@@ -98,16 +86,11 @@ pub fn mark_lines(ledger: &[u64], interval: u64, start: Cent, marks: &mut [u8]) 
 }
 
 // The draw: how many lines it marks 1, and the marks, which a refusal leaves as they were.
-pub fn draw(ledger: &[u64], n: u64, start: u64, marks: &mut [u8]) -> DrawAnswer
+#[tactic(auto, unfolding(crate::specs::Draw::draw_of))]
+pub fn draw(ledger: &[u64], n: u64, start: u64, marks: &mut [u8]) -> Result<u64, Refusal>
     ensures { DrawPromise ledger.now n start marks.old result marks.new }
 {
     let first = Cent(start);
-    match split::figures_for(ledger, n, first, marks.len()) {
-        SplitAnswer::Refused(why) => DrawAnswer::Refused(why),
-        SplitAnswer::Split(figures) => {
-            let interval = figures.interval;
-            let drawn = mark_lines(ledger, interval, first, marks);
-            DrawAnswer::Drawn(drawn)
-        }
-    }
+    let figures = split::figures_for(ledger, n, first, marks.len())?;
+    Ok(mark_lines(ledger, figures.interval, first, marks))
 }

@@ -17,7 +17,7 @@ use Rattle.entry.specs.Records.{number_from, number_of, numbers_from, is_own, is
 use Rattle.entry.specs.declared.Notation.{Notation}
 use Rattle.entry.specs.declared.Notation.TheVariants.{Desk, Programmes}
 use Rattle.entry.specs.declared.Wrong.TheVariants.{UnknownKind, FieldTooMany}
-use Rattle.entry.specs.declared.NumberAnswer.TheVariants.{Number}
+use Rattle.std.specs.Prelude.{Ok}
 use Rattle.entry.specs.declared.Record.TheVariants.{Plan, Stratum, Filed, Unreadable}
 use Rattle.entry.proofs.Cuts.{fields_blank, fields_on, fields_off, opens_at}
 
@@ -47,7 +47,7 @@ digits_read zero n h fits rest = few_digits n fits rest (omega arith)
 digits_read (suc k) n h fits rest =
     ⊎_elim (λ l. more_digits n fits rest l (digits_read k (n / 10) (omega arith) (omega arith))) (λ l. few_digits n fits rest l) (le_or_lt 10 n)
 
-pub number_read_back : (n : ℕ) → n < 2 ^ 64 → number_of (decimal n) ≡ Number n
+pub number_read_back : (n : ℕ) → n < 2 ^ 64 → number_of (decimal n) ≡ Ok n
 unfolding number_of number_from
 number_read_back n fits = ap (number_from 0) (sym (append-nil (decimal n))) ∙ digits_read n n (omega arith) fits []
 

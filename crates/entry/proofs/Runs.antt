@@ -1,31 +1,15 @@
 -- Runs of bytes as a loop over a list meets them. Assumes nothing.
-use mathlib.Core.Path.{◌≡◌, refl, sym, ap, ◌∙◌}
+use mathlib.Core.Path.{◌≡◌, refl, sym, ◌∙◌}
 use mathlib.Core.Bool.{Bool, true, false, not}
 use mathlib.Core.List.{List}
 use Prim.Native.Nat.{ℕ, suc, ◌+◌, ◌≤◌, ◌<◌}
 use native.Mathlib.Numerals.{add-one}
 use native.Mathlib.Omega.{arith}
-use lib.Dec.{eqb}
 use lib.ListN.{length, get_or, drop, drop_of_length-le}
 use lib.Seq.{drop-cons}
-use Rattle.entry.specs.Text.{blank, goes_on}
+use Rattle.entry.specs.Text.{goes_on}
 use Rattle.entry.specs.Steps.{run_of, Reached}
 use Rattle.entry.specs.declared.Run.{Run}
-use Rattle.entry.specs.declared.Run.TheVariants.{Blanks, Field, Line}
-
--- whether a run goes on over a byte
-module _ {run : Run} (byte : ℕ) where
-  pub over_blanks : run ≡ Blanks → {r : Bool} → r ≡ blank byte → r ≡ goes_on run byte
-  unfolding goes_on
-  over_blanks e is = is ∙ sym (ap (λ (run : Run). goes_on run byte) e)
-
-  pub over_field : run ≡ Field → {r : Bool} → r ≡ blank byte → not r ≡ goes_on run byte
-  unfolding goes_on
-  over_field e is = ap not is ∙ sym (ap (λ (run : Run). goes_on run byte) e)
-
-  pub over_line : run ≡ Line → not (eqb byte 10) ≡ goes_on run byte
-  unfolding goes_on
-  over_line e = sym (ap (λ (run : Run). goes_on run byte) e)
 
 module _ (run : Run) (text : List ℕ) (at : ℕ) where
   pub run_on : at < length text → goes_on run (get_or text at 0) ≡ true → run_of run (drop at text) ≡ suc (run_of run (drop (at + 1) text))

@@ -1,36 +1,36 @@
 -- The record that the fields of a line write: a kind, and as many numbers as the kind has. Definitions: nothing is assumed.
-use Rattle.std.specs.Prelude.{ℕ, zero, suc, ◌+◌, ◌*◌, ◌-◌, ◌^◌, Bool, true, false, List, [], ◌∷◌, eqb, ltb, length, get_or}
+use Rattle.std.specs.Prelude.{ℕ, zero, suc, ◌+◌, ◌*◌, ◌-◌, ◌^◌, Bool, true, false, List, [], ◌∷◌, eqb, ltb, length, get_or, Result, Ok, Err}
 use Rattle.terms.specs.Numbers.{pick}
 use Rattle.workfile.specs.declared.FileRecord.{FileRecord}
 use Rattle.entry.specs.Text.{fields_of}
-use Rattle.entry.specs.declared.{Notation.Notation, Wrong.Wrong, NumberAnswer.NumberAnswer, Numbers.Numbers, NumbersAnswer.NumbersAnswer, Record.Record}
+use Rattle.entry.specs.declared.{Notation.Notation, Wrong.Wrong, Numbers.Numbers, Record.Record}
 
 -- a number in decimal digits, after digits that write `value`: the first byte that is no digit, or that passes 64 bits, is wrong
-unfoldable pub number_from : ℕ → List ℕ → NumberAnswer
-number_from value [] = NumberAnswer.Number value
+unfoldable pub number_from : ℕ → List ℕ → Result ℕ Wrong
+number_from value [] = Ok value
 number_from value (b ∷ field) =
     let grown = 10 * value + (b - 48) in
     let rest = number_from grown field in
-    pick (ltb b 48) (NumberAnswer.NoNumber Wrong.NotNumber) (pick (ltb 57 b) (NumberAnswer.NoNumber Wrong.NotNumber) (pick (ltb grown (2 ^ 64)) rest (NumberAnswer.NoNumber Wrong.NumberTooLarge)))
+    pick (ltb b 48) (Err Wrong.NotNumber) (pick (ltb 57 b) (Err Wrong.NotNumber) (pick (ltb grown (2 ^ 64)) rest (Err Wrong.NumberTooLarge)))
 
-unfoldable pub number_of : List ℕ → NumberAnswer
+unfoldable pub number_of : List ℕ → Result ℕ Wrong
 unfolding number_from
 number_of field = number_from 0 field
 
 -- a number that was read, or was not
-abbrev pub with_number : NumberAnswer → (ℕ → NumbersAnswer) → NumbersAnswer
-with_number (NumberAnswer.Number value) more = more value
-with_number (NumberAnswer.NoNumber wrong) more = NumbersAnswer.Unread wrong
+abbrev pub with_number : Result ℕ Wrong → (ℕ → Result Numbers Wrong) → Result Numbers Wrong
+with_number (Ok value) more = more value
+with_number (Err wrong) more = Err wrong
 
 -- the next field is a number, from which the numbers go on
-abbrev pub next : List (List ℕ) → (ℕ → List (List ℕ) → NumbersAnswer) → NumbersAnswer
-next [] more = NumbersAnswer.Unread Wrong.NumberMissing
+abbrev pub next : List (List ℕ) → (ℕ → List (List ℕ) → Result Numbers Wrong) → Result Numbers Wrong
+next [] more = Err Wrong.NumberMissing
 next (field ∷ fields) more = with_number (number_of field) (λ value. more value fields)
 
 -- no field is left
-abbrev pub ended : List (List ℕ) → Numbers → NumbersAnswer
-ended [] numbers = NumbersAnswer.Read numbers
-ended (field ∷ fields) numbers = NumbersAnswer.Unread Wrong.FieldTooMany
+abbrev pub ended : List (List ℕ) → Numbers → Result Numbers Wrong
+ended [] numbers = Ok numbers
+ended (field ∷ fields) numbers = Err Wrong.FieldTooMany
 
 -- the last three numbers, with one more
 abbrev pub no_numbers : Numbers
@@ -40,7 +40,7 @@ abbrev pub one_more : Numbers → ℕ → Numbers
 one_more numbers value = record { first = numbers.second; second = numbers.third; third = value }
 
 -- exactly as many numbers as the count says, after those that were read
-unfoldable pub numbers_from : ℕ → Numbers → List (List ℕ) → NumbersAnswer
+unfoldable pub numbers_from : ℕ → Numbers → List (List ℕ) → Result Numbers Wrong
 unfolding number_of number_from
 numbers_from zero numbers fields = ended fields numbers
 numbers_from (suc left) numbers fields = next fields (λ value after. numbers_from left (one_more numbers value) after)
@@ -72,10 +72,10 @@ made_of kind numbers =
     (pick (eqb kind 0x55) (Record.Filed (FileRecord.ErrorOf true numbers.second numbers.third))
     (Record.Unreadable Wrong.UnknownKind)))))))
 
-unfoldable pub with_numbers : ℕ → NumbersAnswer → Record
+unfoldable pub with_numbers : ℕ → Result Numbers Wrong → Record
 unfolding made_of
-with_numbers kind (NumbersAnswer.Read numbers) = made_of kind numbers
-with_numbers kind (NumbersAnswer.Unread wrong) = Record.Unreadable wrong
+with_numbers kind (Ok numbers) = made_of kind numbers
+with_numbers kind (Err wrong) = Record.Unreadable wrong
 
 -- the record of a kind, from the fields after it
 unfoldable pub record_with : Notation → ℕ → List (List ℕ) → Record

@@ -1,9 +1,9 @@
 -- Where a run of bytes ends, which fields stand from a place on, and which number stands next. Definitions: nothing is assumed.
-use Rattle.std.specs.Prelude.{ℕ, suc, ◌+◌, ◌≤◌, min, ◌≡◌, List, [], ◌∷◌, length, take, drop}
+use Rattle.std.specs.Prelude.{ℕ, suc, ◌+◌, ◌≤◌, min, ◌≡◌, List, [], ◌∷◌, length, take, drop, Result, Ok, Err}
 use Rattle.terms.specs.Numbers.{pick}
 use Rattle.entry.specs.Text.{fields_of, goes_on}
 use Rattle.entry.specs.Records.{next, record_in}
-use Rattle.entry.specs.declared.{Notation.Notation, Run.Run, Record.Record, TextLine.TextLine, NumbersAnswer.NumbersAnswer, NextAnswer.NextAnswer}
+use Rattle.entry.specs.declared.{Notation.Notation, Run.Run, Record.Record, TextLine.TextLine, Numbers.Numbers, Wrong.Wrong}
 
 -- how many bytes of a list a run goes over
 unfoldable pub run_of : Run → List ℕ → ℕ
@@ -33,14 +33,15 @@ line_at by text at = record { found = record_at_line by text at; next = line_aft
 unfoldable pub fields_at : List ℕ → ℕ → List (List ℕ)
 fields_at line at = fields_of (drop at line)
 
-abbrev pub next_place : NextAnswer → ℕ
-next_place (NextAnswer.Next value to) = to
-next_place (NextAnswer.NoNext wrong) = 0
+-- the next number and the place after it, and what then becomes of the line
+abbrev pub next_place : Result (ℕ × ℕ) Wrong → ℕ
+next_place (Ok found) = found.1
+next_place (Err wrong) = 0
 
-abbrev pub next_says : List ℕ → NextAnswer → (ℕ → List (List ℕ) → NumbersAnswer) → NumbersAnswer
-next_says line (NextAnswer.Next value to) more = more value (fields_at line to)
-next_says line (NextAnswer.NoNext wrong) more = NumbersAnswer.Unread wrong
+abbrev pub next_says : List ℕ → Result (ℕ × ℕ) Wrong → (ℕ → List (List ℕ) → Result Numbers Wrong) → Result Numbers Wrong
+next_says line (Ok found) more = more found.0 (fields_at line found.1)
+next_says line (Err wrong) more = Err wrong
 
-pub record NextNumber (line : List ℕ) (at : ℕ) (r : NextAnswer) : Type 0 where
+pub record NextNumber (line : List ℕ) (at : ℕ) (r : Result (ℕ × ℕ) Wrong) : Type 0 where
   pub within : next_place r ≤ length line
-  pub same : (more : ℕ → List (List ℕ) → NumbersAnswer) → next (fields_at line at) more ≡ next_says line r more
+  pub same : (more : ℕ → List (List ℕ) → Result Numbers Wrong) → next (fields_at line at) more ≡ next_says line r more

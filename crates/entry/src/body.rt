@@ -4,33 +4,35 @@ ghost use Rattle.entry.specs.Records.{ended as endedBy, no_numbers, one_more, nu
 ghost use Rattle.entry.specs.Steps.{fields_at};
 
 use crate::fields::{next_number, reach};
-use crate::{NextAnswer, Numbers, NumbersAnswer, Run, Wrong};
+use crate::{Numbers, Run, Wrong};
 
-// The numbers where nothing but blanks follows.
-fn ended(line: &[u8], at: usize, numbers: Numbers) -> NumbersAnswer
-    requires { at ≤ length line.now }
-    ensures { result ≡ endedBy (fields_at line.now at) numbers }
-{
-    let end = reach(line, at, Run::Blanks);
-    if end == line.len() {
-        NumbersAnswer::Read(numbers)
-    } else {
-        NumbersAnswer::Unread(Wrong::FieldTooMany)
+impl Numbers {
+    // The numbers where nothing but blanks follows.
+    #[tactic(auto, using(crate::proofs::Lines::line_ended, crate::proofs::Lines::line_not_ended))]
+    fn ended(self, line: &[u8], at: usize) -> Result<Numbers, Wrong>
+        requires { at ≤ length line.now }
+        ensures { result ≡ endedBy (fields_at line.now at) self }
+    {
+        if reach(line, at, Run::Blanks) != line.len() {
+            return Err(Wrong::FieldTooMany);
+        }
+        Ok(self)
     }
-}
 
-fn one_more(numbers: Numbers, value: u64) -> Numbers
-    ensures { result ≡ one_more numbers value }
-{
-    Numbers {
-        first: numbers.second,
-        second: numbers.third,
-        third: value,
+    fn one_more(self, value: u64) -> Numbers
+        ensures { result ≡ one_more self value }
+    {
+        Numbers {
+            first: self.second,
+            second: self.third,
+            third: value,
+        }
     }
 }
 
 // Exactly `count` numbers from `from` on.
-pub fn read_numbers(line: &[u8], from: usize, count: usize) -> NumbersAnswer
+#[tactic(auto, using(crate::proofs::Lines::none_read, crate::proofs::Lines::one_read, crate::proofs::Lines::not_read, crate::proofs::Lines::all_read))]
+pub fn read_numbers(line: &[u8], from: usize, count: usize) -> Result<Numbers, Wrong>
     requires { from ≤ length line.now }
     ensures { result ≡ numbers_from count no_numbers (fields_at line.now from) }
 {
@@ -40,16 +42,10 @@ pub fn read_numbers(line: &[u8], from: usize, count: usize) -> NumbersAnswer
         third: 0,
     };
     let mut at = from;
-    let mut left = count;
-    while left > 0 {
-        match next_number(line, at) {
-            NextAnswer::NoNext(wrong) => return NumbersAnswer::Unread(wrong),
-            NextAnswer::Next(value, to) => {
-                numbers = one_more(numbers, value);
-                at = to;
-                left -= 1;
-            }
-        }
+    for read in 0..count {
+        let (value, to) = next_number(line, at)?;
+        numbers = numbers.one_more(value);
+        at = to;
     }
-    ended(line, at, numbers)
+    numbers.ended(line, at)
 }

@@ -45,31 +45,12 @@ pub enum Run {
     Line,
 }
 
-#[derive(Clone, Copy)]
-pub enum NumberAnswer {
-    Number(u64),
-    NoNumber(Wrong),
-}
-
-// The next number of a line and the place after it.
-#[derive(Clone, Copy)]
-pub enum NextAnswer {
-    Next(u64, usize),
-    NoNext(Wrong),
-}
-
 // The last three numbers of a line; where it has fewer, the others are 0.
 #[derive(Clone, Copy)]
 pub struct Numbers {
     pub first: u64,
     pub second: u64,
     pub third: u64,
-}
-
-#[derive(Clone, Copy)]
-pub enum NumbersAnswer {
-    Read(Numbers),
-    Unread(Wrong),
 }
 
 // What a line holds: P or N, the S that opens a stratum, or another record of the working file; a blank line and a comment hold nothing.

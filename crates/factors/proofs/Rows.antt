@@ -1,39 +1,19 @@
--- The rows of the table: a row is copied entry by entry, a level's row has its sixty-four factors. Assumes nothing.
-use mathlib.Core.Path.{◌≡◌, refl, sym, ap, ◌∙◌}
+-- The rows of the table: a level's row has its sixty-four factors. Assumes nothing.
+use mathlib.Core.Path.{◌≡◌, sym, ap, subst, ◌∙◌}
 use mathlib.Core.List.{List}
-use Prim.Native.Nat.{ℕ, suc, ◌+◌, ◌*◌, ◌≤◌, ◌<◌, zero-le}
+use Prim.Native.Nat.{ℕ, suc, ◌+◌, ◌*◌, ◌≤◌, ◌<◌}
 use native.Mathlib.Numerals.{add-one}
 use native.Mathlib.Omega.{arith}
 use lib.IntN.{pos, ◌-ℤ◌}
 use borrow.Author.Tests.{lt-ltb}
-use lib.ListN.{length, get_or, take, drop, set, length-set}
-use lib.Seq.{take-suc, take-suc-set, take_all, get_or-take, get_or-drop}
+use lib.ListN.{get_or, drop}
+use lib.Seq.{get_or-take, get_or-drop}
 use Rattle.factors.specs.declared.Level.{Level}
-use Rattle.factors.specs.Levels.{row_of}
+use Rattle.factors.specs.Levels.{percent_of, row_of}
+use Rattle.factors.specs.Rule.{Factor}
 use Rattle.factors.specs.Table.{table}
-use Rattle.factors.specs.Factors.{rf, factors_of, step_of}
-use Rattle.factors.proofs.Whole.{rf_in}
-
--- where `copied` stands: the first k are copied
-pub record Copying (from to : List ℕ) (k : ℕ) : Type 0 where
-  pub inside : k ≤ 64
-  pub all : length from ≡ 64
-  pub same : length to ≡ 64
-  pub front : take k to ≡ take k from
-
-pub copy_begin : (from to : List ℕ) → length from ≡ 64 → length to ≡ 64 → Copying from to 0
-copy_begin from to all same = record { inside = zero-le; all = all; same = same; front = refl }
-
-module _ {from to : List ℕ} {k : ℕ} (at : Copying from to k) where
-  pub copy_turn : (to' : List ℕ) → k < 64 → to' ≡ set to k (get_or from k 0) → Copying from to' (k + 1)
-  copy_turn to' more e =
-      let x = get_or from k 0 in
-      let turned : take (k + 1) to' ≡ take (k + 1) from =
-      rw (add-one, e, take-suc-set to k x (omega (arith, at.same)), take-suc from k 0 (omega (arith, at.all)), at.front) in
-      record { inside = omega arith; all = at.all; same = rw e (length-set to k x ∙ at.same); front = turned }
-
-  pub copy_end : 64 ≤ k → to ≡ from
-  copy_end h = sym (take_all k to (omega (arith, at.same))) ∙ at.front ∙ take_all k from (omega (arith, at.all))
+use Rattle.factors.specs.Factors.{rf, factors_of, step_of, Reliability}
+use Rattle.factors.proofs.Whole.{rf_in, rf_out, rf_factor}
 
 -- a level's row
 module _ (l : Level) where
@@ -47,6 +27,12 @@ module _ (l : Level) where
   step_read k p q from to h =
       rw (from, to, factors_at k (omega arith), factors_at (k + 1) h, add-one, lt-ltb (suc k) 64 (omega arith))
 
--- the row that was copied is the level's
-pub row_read : {l m : Level} {r : List ℕ} → l ≡ m → r ≡ factors_of m → r ≡ factors_of l
-row_read e q = q ∙ sym (ap factors_of e)
+-- the entry at k of a level's factors
+pub factor_read : {l : Level} {k : ℕ} {factors : List ℕ} → factors ≡ factors_of l → k < 64 → Reliability l k (get_or factors k 0)
+factor_read {l} {k} {factors} e h =
+    let same : get_or factors k 0 ≡ rf l k = ap (λ (s : List ℕ). get_or s k 0) e ∙ factors_at l k h in
+    record { value = same; rule = λ g. subst (λ (x : ℕ). Factor (percent_of l) k x) (sym same) (rf_factor l k g) }
+
+-- and none past the table
+pub past_table : {l : Level} {k : ℕ} → 64 ≤ k → Reliability l k 0
+past_table {l} {k} h = record { value = sym (rf_out l k h); rule = λ g. absurd (omega arith) }

@@ -4,8 +4,8 @@ use mathlib.Core.Path.{◌≡◌, refl, sym, ap, subst}
 use mathlib.Core.List.{List, [], ◌∷◌, ◌++◌, append_assoc}
 use Rattle.terms.specs.Outcome.{Outcome, accepted, refused, after}
 use Rattle.terms.proofs.Outcomes.{never, Gives, gives_after}
-use Rattle.season.specs.declared.{Entry.Entry, Tally.Tally}
-use Rattle.season.specs.Tally.{no_tally}
+use Rattle.season.specs.declared.Tally.{Tally}
+use Rattle.season.specs.Tally.{Entry, no_tally}
 use Rattle.season.specs.Add.{add_of}
 use Rattle.season.specs.Figures.{Tells, more}
 use Rattle.season.proofs.Growth.{tells_nothing}

@@ -1,48 +1,34 @@
 -- Files in a row, one after the other: the first file, what is left of the row, and the entries added so far. Assumes nothing.
 use Prim.Native.Nat.{ℕ, zero, suc, ◌+◌, ◌-◌, ◌≤◌, ◌<◌}
+use Rattle.std.specs.Prelude.{Result, Ok, Err, None}
 use mathlib.Core.Path.{◌≡◌, refl, sym, ap, ◌∙◌}
-use mathlib.Core.Bool.{Bool, true, false}
+use mathlib.Core.Bool.{true, false}
 use mathlib.Core.List.{List, [], ◌∷◌}
 use native.Mathlib.Omega.{arith}
 use lib.IntN.{ℤ}
 use lib.ListN.{length, take, drop, length-drop}
 use lib.Seq.{take_all, drop-drop}
 use Rattle.terms.specs.declared.Refusal.{Refusal}
-use Rattle.terms.specs.Outcome.{Outcome, accepted, after, left}
+use Rattle.terms.specs.Outcome.{accepted, refused_by, after, left, says}
 use Rattle.terms.proofs.Tests.{by_test}
-use Rattle.workfile.specs.declared.{Plan.Plan, Contents.Contents, ReadAnswer.ReadAnswer}
+use Rattle.workfile.specs.declared.{Contents.Contents}
 use Rattle.workfile.specs.Promises.{plan_with, Rooms, ReadPromise}
 use Rattle.workfile.proofs.Held.{read_refused, AtRead, decodes}
 use Rattle.reader.specs.declared.Stopped.{Stopped}
 use Rattle.reader.specs.Steps.{stopped_in}
 use Rattle.reader.proofs.Passing.{z_whole}
-use Rattle.steps.specs.declared.{Answers.Answers, StepsAnswer.StepsAnswer}
-use Rattle.steps.specs.Steps.{steps_says, StepsPromise}
-use Rattle.season.specs.declared.{Entry.Entry, Tally.Tally, AddAnswer.AddAnswer, HandedBack.HandedBack}
-use Rattle.season.specs.declared.Entry.TheVariants.{Judgement, NotJudged}
-use Rattle.season.specs.Tally.{no_tally}
-use Rattle.season.specs.Add.{says_with, add_says, add_of, AddPromise}
+use Rattle.season.specs.declared.{Tally.Tally, HandedBack.HandedBack}
+use Rattle.season.specs.Tally.{Entry, no_tally}
+use Rattle.season.specs.Add.{add_of, AddPromise}
 use Rattle.filing.specs.declared.First.{First}
-use Rattle.filing.specs.Filing.{entry_by, content_entry, read_entry, file_entry, first_of, entries_in, entries_of, add_all, files_of, is_added}
-
--- what the steps answered of a content, as it is added
-module _ (plan : Plan) (words ledger : List ℕ) (errors : List ℤ) {r : StepsAnswer} (p : StepsPromise plan words ledger errors r) where
-  pub content_refused : {why : Refusal} → r ≡ StepsAnswer.Refused why → NotJudged ≡ content_entry plan words ledger errors
-  unfolding content_entry
-  content_refused is = sym (ap entry_by (sym p.answer ∙ ap steps_says is))
-
-  pub content_judged : {a : Answers} {book limit : ℕ} → r ≡ StepsAnswer.Answered a → book ≡ a.planned.total → limit ≡ a.judgement.upper_limit
-      → Judgement (record { level = a.planned.level; book = book; limit = limit; verdict = a.judgement.verdict }) ≡ content_entry plan words ledger errors
-  unfolding content_entry
-  content_judged {a} is of upper =
-      (λ i. Judgement (record { level = a.planned.level; book = of i; limit = upper i; verdict = a.judgement.verdict })) ∙ sym (ap entry_by (sym p.answer ∙ ap steps_says is))
+use Rattle.filing.specs.Filing.{content_entry, read_entry, file_entry, first_of, entries_in, entries_of, add_all, files_of}
 
 -- what was read of a file
-pub file_refused : {file w v w' v' : List ℕ} {e e' : List ℤ} {r : ReadAnswer} → Rooms w v e → ReadPromise file w v e r w' v' e' → (why : Refusal) → r ≡ ReadAnswer.Refused why → NotJudged ≡ file_entry file
+pub file_refused : {file w v w' v' : List ℕ} {e e' : List ℤ} {r : Result Contents Refusal} → Rooms w v e → ReadPromise file w v e r w' v' e' → (why : Refusal) → r ≡ Err why → None ≡ file_entry file
 unfolding file_entry
 file_refused rooms p why is = sym (ap read_entry (read_refused rooms p why is))
 
-pub at_read : {file w₀ v₀ w v : List ℕ} {e₀ e : List ℤ} {r : ReadAnswer} {k : Contents} → Rooms w₀ v₀ e₀ → ReadPromise file w₀ v₀ e₀ r w v e → r ≡ ReadAnswer.Read k → AtRead file k w v e
+pub at_read : {file w₀ v₀ w v : List ℕ} {e₀ e : List ℤ} {r : Result Contents Refusal} {k : Contents} → Rooms w₀ v₀ e₀ → ReadPromise file w₀ v₀ e₀ r w v e → r ≡ Ok k → AtRead file k w v e
 at_read rooms p is = record { words = _; values = _; errors = _; answer = _; rooms = rooms; promise = p; told = is }
 
 pub file_read : {file : List ℕ} {k : Contents} {w v : List ℕ} {e : List ℤ} {r : Entry} → AtRead file k w v e →
@@ -59,9 +45,9 @@ module _ (row : List ℕ) {s : Stopped} (is : s ≡ stopped_in row) where
       by_stop : (s : Stopped) → s ≡ stopped_in row → s.ends ≡ true → record { entry = file_entry (take (s.at + 13) row); next = s.at + 13 } ≡ first_of row
       by_stop s is e = simp (sym is, e)
 
-  pub breaks_off : {next : ℕ} → s.ends ≡ false → next ≡ length row → record { entry = NotJudged; next = next } ≡ first_of row
+  pub breaks_off : {next : ℕ} → s.ends ≡ false → next ≡ length row → record { entry = None; next = next } ≡ first_of row
   unfolding first_of
-  breaks_off e to = (λ i. record { entry = NotJudged; next = to i }) ∙ simp (sym is, e)
+  breaks_off e to = (λ i. record { entry = None; next = to i }) ∙ simp (sym is, e)
 
 -- it has a byte at least, and stands within the row
 pub next_within : (row : List ℕ) → 0 < length row → (0 < (first_of row).next) × ((first_of row).next ≤ length row)
@@ -101,20 +87,6 @@ none_left zero row e = refl
 none_left (suc k) [] e = refl
 none_left (suc k) (b ∷ row) e = absurd (omega arith)
 
--- an entry that was added, and one that was not
-added_by : (t : Tally) (a : AddAnswer) {o : Outcome Tally} → says_with t a ≡ o → is_added (says_with t a) ≡ true → o ≡ accepted t
-added_by t AddAnswer.Added e f = sym e
-added_by t (AddAnswer.Refused why) e f = let z : ◌≡◌ {A = ℕ} 0 1 = cc in absurd (omega arith)
-
-not_added_by : (t : Tally) (a : AddAnswer) {o : Outcome Tally} (next : Tally → Outcome Tally) → says_with t a ≡ o → is_added (says_with t a) ≡ false → says_with t a ≡ after next o
-not_added_by t AddAnswer.Added next e f = let z : ◌≡◌ {A = ℕ} 0 1 = cc in absurd (omega arith)
-not_added_by t (AddAnswer.Refused why) next e f = ap (after next) e
-
--- a refusal is told with any tally beside it
-refused_back : (t : Tally) (a : AddAnswer) {u : Tally} {o : Outcome Tally} → is_added (says_with t a) ≡ false → says_with t a ≡ o → u ≡ no_tally → AddPromise no_tally o (record { answer = a; tally = u })
-refused_back t AddAnswer.Added f e empty = let z : ◌≡◌ {A = ℕ} 0 1 = cc in absurd (omega arith)
-refused_back t (AddAnswer.Refused why) f e empty = record { answer = e; tally_left = empty ∙ ap (left (λ v. v) no_tally) e }
-
 -- as the loop stands at a place of the row: the tally of the files before it, and what is still to be added
 pub record Going (files : List ℕ) (at : ℕ) (t : Tally) : Type 0 where
   pub within : at ≤ length files
@@ -125,7 +97,7 @@ unfolding files_of entries_of
 begins files e = record { within = omega arith; same = ap (λ (u : Tally). add_all u (entries_in (length files) files)) e }
 
 module _ {files : List ℕ} {at : ℕ} {t : Tally} (g : Going files at t) where
-  pub ended : length files ≤ at → AddPromise no_tally (files_of files) (record { answer = AddAnswer.Added; tally = t })
+  pub ended : length files ≤ at → AddPromise no_tally (files_of files) (record { answer = Ok tt; tally = t })
   unfolding add_all
   ended h =
       let all : accepted t ≡ files_of files = sym (ap (add_all t) (none_left (length files) (drop at files) (omega (arith, length-drop at files)))) ∙ g.same in
@@ -152,21 +124,21 @@ module _ {files : List ℕ} {at : ℕ} {t : Tally} (g : Going files at t) where
         ap (λ (x : First). x.entry ∷ entries_in (length files) (drop x.next (drop at files))) (sym is) ∙
         ap (λ (row : List ℕ). first.entry ∷ entries_in (length files) row) (drop-drop first.next at files)
 
-    module _ {r : HandedBack} (p : AddPromise t (add_of t first.entry) r) {yes-added : Bool} (told : yes-added ≡ is_added (add_says r)) where
-      pub goes_on_lem : yes-added ≡ true → Going files (at + first.next) r.tally
-      unfolding add_all
-      goes_on_lem y =
-          let added : add_of t first.entry ≡ accepted r.tally = added_by r.tally r.answer p.answer (sym told ∙ y) in
-          let rest : List Entry = entries_in (length files) (drop (at + first.next) files) in
-          record {
-            within = next_fits;
-            same = sym (ap (add_all t) row_is ∙ ap (after (λ u. add_all u rest)) added) ∙ g.same;
-          }
+    module _ {r : HandedBack} (p : AddPromise t (add_of t first.entry) r) where
+      told : {a : Result Unit Refusal} → r.answer ≡ a → add_of t first.entry ≡ after (λ done. accepted r.tally) (says a)
+      told is = sym p.answer ∙ ap (λ (a : Result Unit Refusal). after (λ done. accepted r.tally) (says a)) is
 
-      pub stops : {u : Tally} → yes-added ≡ false → u ≡ no_tally → AddPromise no_tally (files_of files) (record { answer = r.answer; tally = u })
+      abbrev rest : List Entry
+      rest = entries_in (length files) (drop (at + first.next) files)
+
+      on : after (λ u. add_all u rest) (add_of t first.entry) ≡ files_of files
       unfolding add_all
-      stops n empty =
-          let rest : List Entry = entries_in (length files) (drop (at + first.next) files) in
-          let all : add_says r ≡ files_of files =
-          not_added_by r.tally r.answer (λ u. add_all u rest) p.answer (sym told ∙ n) ∙ sym (ap (add_all t) row_is) ∙ g.same in
-          refused_back r.tally r.answer (sym told ∙ n) all empty
+      on = sym (ap (add_all t) row_is) ∙ g.same
+
+      pub goes_on_lem : {done : Unit} → r.answer ≡ Ok done → Going files (at + first.next) r.tally
+      goes_on_lem is = record { within = next_fits; same = sym (ap (after (λ u. add_all u rest)) (told is)) ∙ on }
+
+      pub stops : {why : Refusal} {u : Tally} → r.answer ≡ Err why → u ≡ no_tally → AddPromise no_tally (files_of files) (record { answer = Err why; tally = u })
+      stops {why} is empty =
+          let all : refused_by why ≡ files_of files = ap (after (λ u. add_all u rest)) (sym (told is)) ∙ on in
+          record { answer = all; tally_left = empty ∙ ap (left (λ v. v) no_tally) all }

@@ -1,5 +1,5 @@
 -- Working files that stand in a row, as a season: each is judged as at the desk, and added. Definitions: nothing is assumed.
-use Rattle.std.specs.Prelude.{ℕ, zero, suc, ◌+◌, Bool, true, false, List, [], ◌∷◌, ℤ, length, take, drop}
+use Rattle.std.specs.Prelude.{ℕ, zero, suc, ◌+◌, List, [], ◌∷◌, ℤ, length, take, drop, Some, None}
 use Rattle.terms.specs.Numbers.{pick}
 use Rattle.terms.specs.Outcome.{Outcome, accepted, refused, after}
 use Rattle.workfile.specs.declared.Plan.{Plan}
@@ -8,16 +8,15 @@ use Rattle.workfile.specs.Decode.{decode}
 use Rattle.reader.specs.Steps.{stopped_in}
 use Rattle.steps.specs.declared.Answers.{Answers}
 use Rattle.steps.specs.Steps.{steps_of}
-use Rattle.season.specs.declared.{Entry.Entry, Tally.Tally}
-use Rattle.season.specs.declared.Entry.TheVariants.{Judgement, NotJudged}
-use Rattle.season.specs.Tally.{no_tally}
+use Rattle.season.specs.declared.Tally.{Tally}
+use Rattle.season.specs.Tally.{Entry, no_tally}
 use Rattle.season.specs.Add.{add_of}
 use Rattle.filing.specs.declared.First.{First}
 
 -- what the desk's steps answer of a content, as it is added: the level, the book's total, the upper limit and the verdict
 abbrev pub entry_by : Outcome Answers → Entry
-entry_by (accepted a) = Judgement (record { level = a.planned.level; book = a.planned.total; limit = a.judgement.upper_limit; verdict = a.judgement.verdict })
-entry_by (refused number place) = NotJudged
+entry_by (accepted a) = Some (record { level = a.planned.level; book = a.planned.total; limit = a.judgement.upper_limit; verdict = a.judgement.verdict })
+entry_by (refused number place) = None
 
 unfoldable pub content_entry : Plan → List ℕ → List ℕ → List ℤ → Entry
 content_entry plan words ledger errors = entry_by (steps_of plan words ledger errors)
@@ -25,7 +24,7 @@ content_entry plan words ledger errors = entry_by (steps_of plan words ledger er
 -- a file: one that breaks a rule was refused too
 abbrev pub read_entry : Outcome Content → Entry
 read_entry (accepted c) = content_entry c.plan c.words c.values c.errors
-read_entry (refused number place) = NotJudged
+read_entry (refused number place) = None
 
 unfoldable pub file_entry : List ℕ → Entry
 file_entry file = read_entry (decode file)
@@ -34,7 +33,7 @@ file_entry file = read_entry (decode file)
 unfoldable pub first_of : List ℕ → First
 first_of row =
     let stopped = stopped_in row in
-    pick stopped.ends (record { entry = file_entry (take (stopped.at + 13) row); next = stopped.at + 13 }) (record { entry = NotJudged; next = length row })
+    pick stopped.ends (record { entry = file_entry (take (stopped.at + 13) row); next = stopped.at + 13 }) (record { entry = None; next = length row })
 
 -- the files of a row, each as it is added; the first argument only bounds the recursion
 unfoldable pub entries_in : ℕ → List ℕ → List Entry
@@ -55,7 +54,3 @@ add_all t (e ∷ es) = after (λ u. add_all u es) (add_of t e)
 unfoldable pub files_of : List ℕ → Outcome Tally
 unfolding entries_of add_all
 files_of files = add_all no_tally (entries_of files)
-
-abbrev pub is_added : Outcome Tally → Bool
-is_added (accepted t) = true
-is_added (refused number place) = false

@@ -3,58 +3,56 @@
 
 ghost use Rattle.std.specs.Prelude.{◌≡◌};
 ghost use Rattle.season.specs.Tally.{no_tally};
-ghost use Rattle.season.specs.Add.{add_says, AddPromise};
-ghost use Rattle.filing.specs.Filing.{content_entry, file_entry, first_of, is_added, files_of};
+ghost use Rattle.season.specs.Add.{AddPromise};
+ghost use Rattle.filing.specs.Filing.{content_entry, file_entry, first_of, files_of};
 
-use season::{AddAnswer, Entry, HandedBack, Judged, Tally};
-use steps::StepsAnswer;
-use workfile::{Plan, ReadAnswer};
+use season::{HandedBack, Judged, Tally};
+use steps::Answers;
+use workfile::Plan;
 
 // The first file of a row as it is added, and where the next begins.
 #[derive(Clone, Copy)]
 struct First {
-    entry: Entry,
+    entry: Option<Judged>,
     next: usize,
 }
 
-// A file's content, judged by the desk's steps.
-fn content_entry(plan: Plan, words: &[u64], ledger: &[u64], errors: &[i64]) -> Entry
+// A file's content, judged by the desk's steps; none where it was refused.
+#[tactic(auto, unfolding(crate::specs::Filing::content_entry))]
+fn content_entry(plan: Plan, words: &[u64], ledger: &[u64], errors: &[i64]) -> Option<Judged>
     ensures { result ≡ content_entry plan words.now ledger.now errors.now }
 {
-    match steps::steps(false, plan, words, ledger, errors) {
-        StepsAnswer::Refused(_) => Entry::NotJudged,
-        StepsAnswer::Answered(answers) => {
-            let planned = answers.planned;
-            let judgement = answers.judgement;
-            let verdict = judgement.verdict;
-            Entry::Judgement(Judged {
-                level: planned.level,
-                book: planned.total,
-                limit: judgement.upper_limit,
-                verdict,
-            })
-        }
-    }
+    let Answers {
+        planned,
+        judgement,
+        ..
+    } = steps::steps(false, plan, words, ledger, errors).ok()?;
+    Some(Judged {
+        level: planned.level,
+        book: planned.total,
+        limit: judgement.upper_limit,
+        verdict: judgement.verdict,
+    })
 }
 
-// A file, judged; one that breaks a rule was refused too.
-fn file_entry(file: &[u8]) -> Entry
+// A file, judged; one that breaks a rule was refused too. Its content stands in buffers of fixed length, as at the desk: no heap.
+fn file_entry(file: &[u8]) -> Option<Judged>
     ensures { result ≡ file_entry file.now }
 {
     let mut words = [0u64; workfile::MOST_WORDS];
     let mut values = [0u64; workfile::MOST_FILE_LINES];
     let mut errors = [0i64; workfile::MOST_FILE_LINES];
     match reader::read(file, &mut words, &mut values, &mut errors) {
-        ReadAnswer::Refused(_) => Entry::NotJudged,
-        ReadAnswer::Read(contents) => {
+        Err(_) => None,
+        Ok(contents) => {
             let plan = Plan {
                 level: contents.level,
                 te: contents.te,
                 ae: contents.ae,
             };
-            let count = contents.words as usize;
+            let words = &words[..contents.words as usize];
             let lines = contents.lines as usize;
-            content_entry(plan, &words[..count], &values[..lines], &errors[..lines])
+            content_entry(plan, words, &values[..lines], &errors[..lines])
         }
     }
 }
@@ -72,46 +70,36 @@ fn first_file(row: &[u8]) -> First
         };
     }
     First {
-        entry: Entry::NotJudged,
+        entry: None,
         next: row.len(),
     }
 }
 
-// Whether an entry was added.
-fn is_added(handed: HandedBack) -> bool
-    ensures { result ≡ is_added (add_says handed) }
-{
-    let answer = handed.answer;
-    match answer {
-        AddAnswer::Added => true,
-        AddAnswer::Refused(_) => false,
-    }
-}
-
-// The tally of all files of a row; or the first refusal of a tally, and none beside it.
+// The tally of all files of a row; or the first refusal of a tally, and none beside it. By place: a file moves on by its own length.
 pub fn tally_files(files: &[u8]) -> HandedBack
     ensures { AddPromise no_tally (files_of files.now) result }
 {
     let mut tally = Tally::none();
     let mut at: usize = 0;
+    // a true `while`: each file tells where the next begins
     while at < files.len() {
-        let first = first_file(&files[at..]);
-        let next = first.next;
-        let entry = first.entry;
+        let First { entry, next } = first_file(&files[at..]);
         let handed = tally.add(entry);
-        if is_added(handed) {
-            tally = handed.tally;
-            at = at + next;
-        } else {
-            let answer = handed.answer;
-            return HandedBack {
-                answer,
-                tally: Tally::none(),
-            };
+        match handed.answer {
+            Ok(()) => {
+                tally = handed.tally;
+                at += next;
+            }
+            Err(why) => {
+                return HandedBack {
+                    answer: Err(why),
+                    tally: Tally::none(),
+                };
+            }
         }
     }
     HandedBack {
-        answer: AddAnswer::Added,
+        answer: Ok(()),
         tally,
     }
 }

@@ -1,6 +1,8 @@
 -- The promises fix the answer and the errors: any two results that meet one agree; and which refusals are given. Assumes nothing.
 use Prim.Native.Nat.{ℕ, suc}
-use mathlib.Core.Path.{◌≡◌, refl, sym, ◌∙◌}
+use Rattle.terms.specs.declared.Refusal.{Refusal}
+use Rattle.std.specs.Prelude.{Result}
+use mathlib.Core.Path.{◌≡◌, sym, ◌∙◌}
 use mathlib.Core.Bool.{false}
 use mathlib.Core.List.{List, [], ◌∷◌}
 use lib.Dec.{eqb, leb, ltb}
@@ -8,31 +10,21 @@ use lib.IntN.{ℤ}
 use lib.ListN.{length, get_or}
 use Rattle.terms.specs.Outcome.{Outcome, accepted, refused}
 use Rattle.terms.specs.Numbers.{pick}
-use Rattle.terms.proofs.Answers.{Made, good, bad, one_answer}
+use Rattle.terms.proofs.Answers.{says_once}
 use Rattle.terms.proofs.Outcomes.{Gives, gives_after, gives_among}
 use Rattle.terms.proofs.Tests.{by_test}
 use Rattle.signed.specs.Errors.{size_of}
-use Rattle.findings.specs.declared.PostAnswer.{PostAnswer}
-use Rattle.findings.specs.declared.PostAnswer.TheVariants.{Posted, Refused}
-use Rattle.findings.specs.Findings.{post_says, misplaced, equally_long, line_of, post_of, PostPromise}
+use Rattle.findings.specs.Findings.{misplaced, equally_long, line_of, post_of, PostPromise}
 use Rattle.findings.specs.Batch.{Pair, Batch, pairs_of, placed_at, posted_then, posted_from, post_all_of, PostAllPromise}
 use Rattle.findings.proofs.Posting.{posting}
 
-post_made : (r : PostAnswer) → Made Posted Refused r
-post_made (Posted pairs) = good pairs
-post_made (Refused why) = bad why
-
--- an answer is what it says
-pub post_answer : {o : Outcome ℕ} (r s : PostAnswer) → post_says r ≡ o → post_says s ≡ o → r ≡ s
-post_answer = one_answer post_says Posted Refused (λ a. refl) (λ why. refl) post_made
-
-pub post_once : {ledger marks : List ℕ} {errors : List ℤ} {line : ℕ} {error : ℤ} {r s : PostAnswer} {b c : List ℤ} →
+pub post_once : {ledger marks : List ℕ} {errors : List ℤ} {line : ℕ} {error : ℤ} {r s : Result ℕ Refusal} {b c : List ℤ} →
     PostPromise ledger marks errors line error r b → PostPromise ledger marks errors line error s c → (r ≡ s) × (b ≡ c)
-post_once {r = r} {s = s} p q = (post_answer r s p.answer q.answer, p.errors_left ∙ sym q.errors_left)
+post_once {r = r} {s = s} p q = (says_once r s p.answer q.answer, p.errors_left ∙ sym q.errors_left)
 
-pub post_all_once : {ledger marks : List ℕ} {errors : List ℤ} {lines : List ℕ} {found : List ℤ} {r s : PostAnswer} {b c : List ℤ} →
+pub post_all_once : {ledger marks : List ℕ} {errors : List ℤ} {lines : List ℕ} {found : List ℤ} {r s : Result ℕ Refusal} {b c : List ℤ} →
     PostAllPromise ledger marks errors lines found r b → PostAllPromise ledger marks errors lines found s c → (r ≡ s) × (b ≡ c)
-post_all_once {r = r} {s = s} p q = (post_answer r s p.answer q.answer, p.errors_left ∙ sym q.errors_left)
+post_all_once {r = r} {s = s} p q = (says_once r s p.answer q.answer, p.errors_left ∙ sym q.errors_left)
 
 -- the refusals that a pair gives, and that posting gives
 abbrev pub pair_numbers : List ℕ

@@ -1,5 +1,6 @@
 -- The pairs of a batch, one after another, as the code meets them. Assumes nothing.
 use Prim.Native.Nat.{ℕ, suc, ◌+◌, ◌^◌, ◌≤◌, ◌<◌, zero-le}
+use Rattle.std.specs.Prelude.{Result, Ok, Err}
 use native.Mathlib.Nat.{add-zero}
 use native.Mathlib.Numerals.{add-one}
 use native.Mathlib.Omega.{arith}
@@ -14,7 +15,7 @@ use lib.Signed.{mag}
 use borrow.Author.Tests.{eq-eqb, ne_eqb, not-true, not-false}
 use Rattle.terms.specs.declared.Refusal.{Refusal}
 use Rattle.terms.specs.declared.Refusal.TheVariants.{LengthsDiffer}
-use Rattle.terms.specs.Outcome.{Outcome, accepted, refused, after, left}
+use Rattle.terms.specs.Outcome.{Outcome, accepted, refused, after, left, says}
 use Rattle.terms.specs.Numbers.{pick}
 use Rattle.terms.proofs.Outcomes.{never}
 use Rattle.terms.proofs.Tests.{by_test}
@@ -22,9 +23,7 @@ use Rattle.signed.proofs.Signs.{held, kept}
 use Rattle.bits.specs.declared.Bits.TheVariants.{All}
 use Rattle.bits.specs.Own.{bits_of}
 use Rattle.bits.proofs.Lists.{bits_all}
-use Rattle.findings.specs.declared.PostAnswer.{PostAnswer}
-use Rattle.findings.specs.declared.PostAnswer.TheVariants.{Posted, Refused}
-use Rattle.findings.specs.Findings.{post_says, equally_long, line_of, post_of}
+use Rattle.findings.specs.Findings.{equally_long, line_of, post_of}
 use Rattle.findings.specs.Batch.{Pair, Batch, pairs_of, placed_at, posted_then, posted_from, post_all_of, PairPromise, Postable, PairsPromise, PostAllPromise}
 use Rattle.findings.proofs.Rules.{long_counted, long_told, same_long}
 use Rattle.findings.proofs.Posting.{posting}
@@ -98,7 +97,7 @@ post_long ledger marks errors line error =
 module _ {ledger marks : List ℕ} {errors₀ : List ℤ} {lines : List ℕ} {found : List ℤ} {position : ℕ} {errors : List ℤ}
     (at : Posting ledger marks errors₀ lines found position errors) where
   -- one pair more; its error was read from its bits
-  module _ (more : position < length lines) (fits : mag (get_or found position (pos 0)) < 2 ^ 63) {r : PostAnswer} {errors' : List ℤ}
+  module _ (more : position < length lines) (fits : mag (get_or found position (pos 0)) < 2 ^ 63) {r : Result ℕ Refusal} {errors' : List ℤ}
       (promise : PairPromise ledger marks errors position (get_or lines position 0) (held (get_or found position (pos 0))) r errors') where
     abbrev next : List ℤ → Batch
     next posted = posted_from ledger marks (suc position) posted (pairs_from (position + 1) lines found)
@@ -112,27 +111,29 @@ module _ {ledger marks : List ℕ} {errors₀ : List ℤ} {lines : List ℕ} {fo
     one : PairPromise ledger marks errors position (get_or lines position 0) (get_or found position (pos 0)) r errors'
     one = subst (λ (z : ℤ). PairPromise ledger marks errors position (get_or lines position 0) z r errors') (kept (get_or found position (pos 0)) fits) promise
 
-    pub posting_stops : {why : Refusal} → r ≡ Refused why → PairsPromise ledger marks errors₀ lines found (Refused why) errors'
+    pub posting_stops : {why : Refusal} → r ≡ Err why → PairsPromise ledger marks errors₀ lines found (Err why) errors'
     posting_stops is =
-        let e = then_refused errors next position single (sym (ap post_says is) ∙ one.answer) one.errors_left ∙ on in
+        let e = then_refused errors next position single (sym (ap says is) ∙ one.answer) one.errors_left ∙ on in
         record { answer = ap (λ (b : Batch). b.says) e; errors_left = ap (λ (b : Batch). b.errors) e }
 
-    pub posting_more : {n : ℕ} → r ≡ Posted n → Posting ledger marks errors₀ lines found (position + 1) errors'
+    pub posting_more : {n : ℕ} → r ≡ Ok n → Posting ledger marks errors₀ lines found (position + 1) errors'
     posting_more is =
         record {
           inside = omega arith;
           same = ap length one.errors_left ∙ post_long ledger marks errors _ _ ∙ at.same;
           whole =
               ap (λ (k : ℕ). posted_from ledger marks k errors' (pairs_from (position + 1) lines found)) (add-one position)
-              ∙ sym (then_posted errors next position single (sym (ap post_says is) ∙ one.answer) one.errors_left) ∙ on;
+              ∙ sym (then_posted errors next position single (sym (ap says is) ∙ one.answer) one.errors_left) ∙ on;
         }
 
   -- every pair is posted
-  pub posting_end : length lines ≤ position → PairsPromise ledger marks errors₀ lines found (Posted position) errors
+  pub posting_end : length lines ≤ position → PairsPromise ledger marks errors₀ lines found (Ok (length lines)) errors
   posting_end h =
+      let inside = at.inside in
+      let last : length lines ≡ position = omega arith in
       let e : ◌≡◌ {A = Batch} (record { says = accepted position; errors = errors }) (posted_from ledger marks 0 errors₀ (pairs_of lines found)) =
       sym (ap (posted_from ledger marks position errors) (pairs_end position lines found h) ∙ posted_none ledger marks position errors) ∙ at.whole in
-      record { answer = ap (λ (b : Batch). b.says) e; errors_left = ap (λ (b : Batch). b.errors) e }
+      record { answer = ap (λ (n : ℕ). accepted n) last ∙ ap (λ (b : Batch). b.says) e; errors_left = ap (λ (b : Batch). b.errors) e }
 
 -- as `post_all_by` meets them
 module _ (ledger marks : List ℕ) (errors : List ℤ) (lines : List ℕ) (found : List ℤ) where
@@ -151,17 +152,17 @@ module _ (ledger marks : List ℕ) (errors : List ℤ) (lines : List ℕ) (found
   all_none e = ap (λ (b : Bool). pick b (posted_from ledger marks 0 errors (pairs_of lines found)) (record { says = refused 13 0; errors = errors })) e
 
   all_differ : (pick (equally_long (length ledger) (length marks) (length errors)) (eqb (length found) (length lines)) false) ≡ false →
-      PostAllPromise ledger marks errors lines found (Refused LengthsDiffer) errors
+      PostAllPromise ledger marks errors lines found (Err LengthsDiffer) errors
   all_differ e =
       let same = sym (all_none e) in
       record { answer = ap (λ (b : Batch). b.says) same; errors_left = ap (λ (b : Batch). b.errors) same }
 
   pub all_lengths : {many : ℕ} → length marks ≡ many → {b : Bool} → b ≡ equally_long (length ledger) many (length errors) → not b ≡ true →
-      PostAllPromise ledger marks errors lines found (Refused LengthsDiffer) errors
+      PostAllPromise ledger marks errors lines found (Err LengthsDiffer) errors
   all_lengths counted is t = all_differ (simp (sym (long_counted _ _ _ counted is) ∙ not-true _ t))
 
   module _ {many : ℕ} (counted : length marks ≡ many) {b : Bool} (is : b ≡ equally_long (length ledger) many (length errors)) (t : not b ≡ false) where
-    pub all_lists : (length found ≡ length lines → ⊥) → PostAllPromise ledger marks errors lines found (Refused LengthsDiffer) errors
+    pub all_lists : (length found ≡ length lines → ⊥) → PostAllPromise ledger marks errors lines found (Err LengthsDiffer) errors
     all_lists e = all_differ (simp (sym (long_counted _ _ _ counted is) ∙ not-false _ t, ne_eqb _ _ e))
 
     module _ (same : length found ≡ length lines) where
@@ -170,11 +171,11 @@ module _ (ledger marks : List ℕ) (errors : List ℤ) (lines : List ℕ) (found
           let both = long_told _ _ _ counted is t in
           record { marks_same = both.0; errors_same = both.1; found_same = same }
 
-      pub all_posted : {r : PostAnswer} {errors' : List ℤ} → PairsPromise ledger marks errors lines found r errors' → PostAllPromise ledger marks errors lines found r errors'
+      pub all_posted : {r : Result ℕ Refusal} {errors' : List ℤ} → PairsPromise ledger marks errors lines found r errors' → PostAllPromise ledger marks errors lines found r errors'
       all_posted p =
           let e = all_from all_postable in
           record { answer = p.answer ∙ sym (ap (λ (x : Batch). x.says) e); errors_left = p.errors_left ∙ sym (ap (λ (x : Batch). x.errors) e) }
 
   -- as `post_all` meets it: all eight bits are the marks
-  pub all_plain : {r : PostAnswer} {errors' : List ℤ} → PostAllPromise ledger (bits_of All marks) errors lines found r errors' → PostAllPromise ledger marks errors lines found r errors'
+  pub all_plain : {r : Result ℕ Refusal} {errors' : List ℤ} → PostAllPromise ledger (bits_of All marks) errors lines found r errors' → PostAllPromise ledger marks errors lines found r errors'
   all_plain {r} {errors'} = subst (λ (own : List ℕ). PostAllPromise ledger own errors lines found r errors') (bits_all marks)

@@ -1,35 +1,30 @@
 -- The rules of one finding: the lengths, and the line on which it may stand, as the code meets them and what they come to. Assumes nothing.
 use Prim.Native.Nat.{ℕ, ◌^◌, ◌≤◌, ◌<◌}
+use Rattle.std.specs.Prelude.{Ok}
 use mathlib.Core.Path.{◌≡◌, refl, sym, ap, ◌∙◌}
 use mathlib.Core.Bool.{Bool, true, false, not}
 use mathlib.Core.List.{List}
 use native.Mathlib.Omega.{arith}
-use borrow.Author.Tests.{ltb-false, leb-false, eqb-true, lt-ltb, le-ltb, le-leb, lt-leb, eq-eqb, ne_eqb, not-false}
+use borrow.Author.Tests.{ltb-false, leb-false, eqb-true, le-ltb, lt-leb, eq-eqb, not-false}
 use lib.Dec.{eqb, leb, ltb}
 use lib.IntN.{ℤ}
 use lib.ListN.{length, get_or}
 use lib.Signed.{mag}
-use Rattle.terms.specs.declared.Refusal.TheVariants.{LineNotThere, ErrorAboveValue, ErrorNotDrawn}
-use Rattle.terms.specs.Outcome.{Outcome, accepted}
-use Rattle.terms.specs.Numbers.{pick}
+use Rattle.terms.specs.Outcome.{Outcome, accepted, says}
 use Rattle.terms.proofs.Tests.{by_test}
 use Rattle.terms.proofs.Outcomes.{never}
 use Rattle.signed.specs.Errors.{size_of}
 use Rattle.bits.specs.declared.Bits.{Bits}
 use Rattle.bits.specs.Own.{own_of, bits_of}
-use Rattle.bits.proofs.Lists.{bits_length, bits_at}
+use Rattle.bits.proofs.Lists.{bits_at}
 use Rattle.signed.proofs.Signs.{held, size_read}
-use Rattle.findings.specs.declared.PairAnswer.TheVariants.{Line, Refused}
-use Rattle.findings.specs.Findings.{pair_says, misplaced, line_of, equally_long}
+use Rattle.findings.specs.Findings.{misplaced, line_of, equally_long}
 use Rattle.findings.specs.Batch.{placed_at}
 
 -- the lengths, as `equally_long` meets them
 module _ (ledger marks errors : ℕ) where
-  pub long_marks : marks ≡ ledger → eqb errors ledger ≡ equally_long ledger marks errors
+  long_marks : marks ≡ ledger → eqb errors ledger ≡ equally_long ledger marks errors
   long_marks e = sym (simp (eq-eqb _ _ e))
-
-  pub long_not : (marks ≡ ledger → ⊥) → false ≡ equally_long ledger marks errors
-  long_not e = sym (simp (ne_eqb _ _ e))
 
   -- both are the ledger's
   pub long_same : equally_long ledger marks errors ≡ true → (marks ≡ ledger) × (errors ≡ ledger)
@@ -52,22 +47,8 @@ module _ (mark size : ℕ) where
   pub placed_none : size ≡ 0 → false ≡ misplaced mark size
   placed_none z = sym (simp (eq-eqb _ _ z))
 
-  module _ (some : size ≡ 0 → ⊥) where
-    pub placed_drawn : mark ≡ 1 → false ≡ misplaced mark size
-    placed_drawn e = sym (simp (ne_eqb _ _ some, eq-eqb _ _ e))
-
-    pub placed_full : (mark ≡ 1 → ⊥) → not (eqb mark 2) ≡ misplaced mark size
-    placed_full e = by (eqb mark 2) ∙ sym (simp (ne_eqb _ _ some, ne_eqb _ _ e))
-      where
-        by : (b : Bool) → not b ≡ pick b false true
-        by true = refl
-        by false = refl
-
 -- the own bits of a line's mark, as `line_of` reads them
 module _ (bits : Bits) (marks : List ℕ) (line : ℕ) where
-  pub mark_inside : {lines : ℕ} → length (bits_of bits marks) ≡ lines → line < lines → line < length marks
-  mark_inside same inside = omega (arith, bits_length bits marks)
-
   pub mark_read : (size : ℕ) {mark : ℕ} {b : Bool} → mark ≡ own_of bits (get_or marks line 0) → b ≡ misplaced mark size → b ≡ misplaced (get_or (bits_of bits marks) line 0) size
   mark_read size is told = told ∙ ap (λ (k : ℕ). misplaced k size) (is ∙ sym (bits_at bits marks line))
 
@@ -99,27 +80,9 @@ module _ (ledger marks : List ℕ) (line : ℕ) (error : ℤ) where
       (λ u. by_test (λ (o : Outcome ℕ). placed_at 0 o ≡ o) (misplaced (get_or marks line 0) (size_of error)) (λ v. refl) (λ v. refl)))
 
   -- as `line_of` meets it, with the error read from its bits
-  module _ (position : ℕ) where
-    pub line_not_there : length ledger ≤ line → pair_says (Refused (LineNotThere position)) ≡ placed_at position (line_of ledger marks line error)
-    unfolding line_of
-    line_not_there h = sym (simp (le-leb _ _ h))
-
-    module _ (inside : line < length ledger) (fits : mag error < 2 ^ 63) {size : ℕ} (told : size ≡ size_of (held error)) where
-      is_size : size ≡ size_of error
-      is_size = size_read error fits told
-
-      pub line_above : get_or ledger line 0 < size → pair_says (Refused (ErrorAboveValue position)) ≡ placed_at position (line_of ledger marks line error)
-      unfolding line_of
-      line_above h = sym (simp (lt-leb _ _ inside, lt-ltb (get_or ledger line 0) (size_of error) (omega (arith, is_size))))
-
-      module _ (within : size ≤ get_or ledger line 0) {b : Bool} (is : b ≡ misplaced (get_or marks line 0) size) where
-        marked : {c : Bool} → b ≡ c → misplaced (get_or marks line 0) (size_of error) ≡ c
-        marked t = sym (ap (misplaced (get_or marks line 0)) is_size) ∙ sym is ∙ t
-
-        pub line_not_drawn : b ≡ true → pair_says (Refused (ErrorNotDrawn position)) ≡ placed_at position (line_of ledger marks line error)
-        unfolding line_of
-        line_not_drawn t = sym (simp (lt-leb _ _ inside, le-ltb (get_or ledger line 0) (size_of error) (omega (arith, is_size)), marked t))
-
-        pub line_passes : b ≡ false → pair_says (Line line) ≡ placed_at position (line_of ledger marks line error)
-        line_passes t =
-            sym (ap (placed_at position) (line_stands (record { inside = inside; within = omega (arith, is_size); marked = marked t })))
+  pub line_passes : (position : ℕ) → line < length ledger → mag error < 2 ^ 63 → {size : ℕ} → size ≡ size_of (held error) → size ≤ get_or ledger line 0 →
+      {b : Bool} → b ≡ misplaced (get_or marks line 0) size → b ≡ false → says (Ok line) ≡ placed_at position (line_of ledger marks line error)
+  line_passes position inside fits {size} told within is t =
+      let size_is : size ≡ size_of error = size_read error fits told in
+      let marked : misplaced (get_or marks line 0) (size_of error) ≡ false = sym (ap (misplaced (get_or marks line 0)) size_is) ∙ sym is ∙ t in
+      sym (ap (placed_at position) (line_stands (record { inside = inside; within = omega (arith, size_is); marked = marked })))

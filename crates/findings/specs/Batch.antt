@@ -1,9 +1,9 @@
 -- Findings by the batch: pairs of a line and an error, posted singly in their order up to the first that is refused. Definitions: nothing is assumed.
-use Rattle.std.specs.Prelude.{ℕ, suc, ◌≡◌, false, List, [], ◌∷◌, eqb, ℤ, pos, length, get_or, drop}
-use Rattle.terms.specs.Outcome.{Outcome, accepted, refused, after, left}
+use Rattle.std.specs.Prelude.{ℕ, suc, ◌≡◌, false, List, [], ◌∷◌, eqb, ℤ, pos, length, get_or, drop, Result}
+use Rattle.terms.specs.declared.Refusal.{Refusal}
+use Rattle.terms.specs.Outcome.{Outcome, accepted, refused, after, left, says}
 use Rattle.terms.specs.Numbers.{pick}
-use Rattle.findings.specs.declared.{PostAnswer.PostAnswer}
-use Rattle.findings.specs.Findings.{post_says, equally_long, post_of}
+use Rattle.findings.specs.Findings.{equally_long, post_of}
 
 pub record Pair : Type 0 where
   pub line : ℕ
@@ -43,8 +43,8 @@ post_all_of ledger marks errors lines found =
     (record { says = refused 13 0; errors = errors })
 
 -- one pair at a position, as the batch posts it
-pub record PairPromise (ledger marks : List ℕ) (errors : List ℤ) (position line : ℕ) (error : ℤ) (r : PostAnswer) (errors' : List ℤ) : Type 0 where
-  pub answer : post_says r ≡ after (λ posted. accepted 1) (placed_at position (post_of ledger marks errors line error))
+pub record PairPromise (ledger marks : List ℕ) (errors : List ℤ) (position line : ℕ) (error : ℤ) (r : Result ℕ Refusal) (errors' : List ℤ) : Type 0 where
+  pub answer : says r ≡ after (λ posted. accepted 1) (placed_at position (post_of ledger marks errors line error))
   pub errors_left : errors' ≡ left (λ posted. posted) errors (post_of ledger marks errors line error)
 
 -- what posting pairs asks: marks and errors beside the ledger, and an error for each line
@@ -53,11 +53,11 @@ pub record Postable (ledger marks : List ℕ) (errors : List ℤ) (lines : List 
   pub errors_same : length errors ≡ length ledger
   pub found_same : length found ≡ length lines
 
-pub record PairsPromise (ledger marks : List ℕ) (errors : List ℤ) (lines : List ℕ) (found : List ℤ) (r : PostAnswer) (errors' : List ℤ) : Type 0 where
-  pub answer : post_says r ≡ (posted_from ledger marks 0 errors (pairs_of lines found)).says
+pub record PairsPromise (ledger marks : List ℕ) (errors : List ℤ) (lines : List ℕ) (found : List ℤ) (r : Result ℕ Refusal) (errors' : List ℤ) : Type 0 where
+  pub answer : says r ≡ (posted_from ledger marks 0 errors (pairs_of lines found)).says
   pub errors_left : errors' ≡ (posted_from ledger marks 0 errors (pairs_of lines found)).errors
 
 -- what `post_all` promises: the answer, and the errors, whether it is accepted or refused
-pub record PostAllPromise (ledger marks : List ℕ) (errors : List ℤ) (lines : List ℕ) (found : List ℤ) (r : PostAnswer) (errors' : List ℤ) : Type 0 where
-  pub answer : post_says r ≡ (post_all_of ledger marks errors lines found).says
+pub record PostAllPromise (ledger marks : List ℕ) (errors : List ℤ) (lines : List ℕ) (found : List ℤ) (r : Result ℕ Refusal) (errors' : List ℤ) : Type 0 where
+  pub answer : says r ≡ (post_all_of ledger marks errors lines found).says
   pub errors_left : errors' ≡ (post_all_of ledger marks errors lines found).errors

@@ -1,19 +1,10 @@
 -- One finding: the error that was found on a line, posted among the errors beside the ledger. The marks say which lines are in the sample; the
 -- ledger is not judged. Definitions: nothing is assumed.
-use Rattle.std.specs.Prelude.{ℕ, ◌≡◌, Bool, true, false, List, eqb, leb, ltb, ℤ, length, get_or, set}
-use Rattle.terms.specs.Outcome.{Outcome, accepted, refused, refused_by, after, left}
+use Rattle.std.specs.Prelude.{ℕ, ◌≡◌, Bool, true, false, List, eqb, leb, ltb, ℤ, length, get_or, set, Result}
+use Rattle.terms.specs.declared.Refusal.{Refusal}
+use Rattle.terms.specs.Outcome.{Outcome, accepted, refused, after, left, says}
 use Rattle.terms.specs.Numbers.{pick}
 use Rattle.signed.specs.Errors.{size_of}
-use Rattle.findings.specs.declared.{PostAnswer.PostAnswer, PairAnswer.PairAnswer}
-
--- what the answers say: how many pairs were posted; the line on which a finding may stand
-abbrev pub post_says : PostAnswer → Outcome ℕ
-post_says (PostAnswer.Posted pairs) = accepted pairs
-post_says (PostAnswer.Refused why) = refused_by why
-
-abbrev pub pair_says : PairAnswer → Outcome ℕ
-pair_says (PairAnswer.Line line) = accepted line
-pair_says (PairAnswer.Refused why) = refused_by why
 
 -- an error other than 0 under a mark that says neither drawn, 1, nor full, 2: any other means not drawn
 abbrev pub misplaced : ℕ → ℕ → Bool
@@ -36,6 +27,6 @@ post_of ledger marks errors line error =
     pick (equally_long (length ledger) (length marks) (length errors)) (after (λ at. accepted (set errors at error)) (line_of ledger marks line error)) (refused 13 0)
 
 -- what `post` promises: one pair was posted, or the refusal; and the errors, which a refusal leaves
-pub record PostPromise (ledger marks : List ℕ) (errors : List ℤ) (line : ℕ) (error : ℤ) (r : PostAnswer) (errors' : List ℤ) : Type 0 where
-  pub answer : post_says r ≡ after (λ posted. accepted 1) (post_of ledger marks errors line error)
+pub record PostPromise (ledger marks : List ℕ) (errors : List ℤ) (line : ℕ) (error : ℤ) (r : Result ℕ Refusal) (errors' : List ℤ) : Type 0 where
+  pub answer : says r ≡ after (λ posted. accepted 1) (post_of ledger marks errors line error)
   pub errors_left : errors' ≡ left (λ posted. posted) errors (post_of ledger marks errors line error)

@@ -35,17 +35,17 @@ module _ (strata : ℕ) (errors : List ℤ) (sums : ProjectedStrata) {any : Bool
 pub shows_few : {counts ledger : List ℕ} {errors : List ℤ} {rows : List Row} → Shows counts ledger errors rows → length counts ≤ most_strata
 shows_few s = s.parted.few
 
-pub answers_written : {counts ledger : List ℕ} {errors : List ℤ} (a : Answers) → Shows counts ledger errors a.rows → (draws : ℕ) {total : ℕ} → total ≡ sum ledger →
+pub answers_written : {counts ledger : List ℕ} {errors : List ℤ} (a : Answers) → Shows counts ledger errors a.plan.rows → (draws : ℕ) {total : ℕ} → total ≡ sum ledger →
     {o o₁ o₂ o₃ o₄ : List ℕ} {a₀ a₁ a₂ a₃ a₄ : ℕ} → Page.Wrote o a₀ (plan_line draws (length counts) total) o₁ a₁ × (length (plan_line draws (length counts) total) ≤ 68) →
-    Page.Wrote o₁ a₁ (strata_text 0 (parts_of counts ledger) a.rows a.starts a.words) o₂ a₂ × (length (strata_text 0 (parts_of counts ledger) a.rows a.starts a.words) ≤ 239 * length counts) →
-    Page.Wrote o₂ a₂ (drawn_text 0 0 (parts_of counts ledger) a.rows a.starts (parts_of counts errors)) o₃ a₃ →
+    Page.Wrote o₁ a₁ (strata_text 0 (parts_of counts ledger) a.plan.rows a.chosen.starts a.chosen.words) o₂ a₂ × (length (strata_text 0 (parts_of counts ledger) a.plan.rows a.chosen.starts a.chosen.words) ≤ 239 * length counts) →
+    Page.Wrote o₂ a₂ (drawn_text 0 0 (parts_of counts ledger) a.plan.rows a.chosen.starts (parts_of counts errors)) o₃ a₃ →
     Page.Wrote o₃ a₃ (errors_text (length counts) errors a.sums) o₄ a₄ × (length (errors_text (length counts) errors a.sums) ≤ 68 + 110 * length counts) →
     Page.Wrote o a₀ (answers_text draws counts ledger errors a) o₄ a₄ × (length (answers_text draws counts ledger errors a) ≤ longest_for (length ledger) (length counts))
 unfolding answers_text
 answers_written {counts} {ledger} {errors} a s draws {total} is planned listed drawn closed =
     let plan = plan_line draws (length counts) total in
-    let strata = strata_text 0 (parts_of counts ledger) a.rows a.starts a.words in
-    let lines = drawn_text 0 0 (parts_of counts ledger) a.rows a.starts (parts_of counts errors) in
+    let strata = strata_text 0 (parts_of counts ledger) a.plan.rows a.chosen.starts a.chosen.words in
+    let lines = drawn_text 0 0 (parts_of counts ledger) a.plan.rows a.chosen.starts (parts_of counts errors) in
     let last = errors_text (length counts) errors a.sums in
     as_bounded {most = longest_for (length ledger) (length counts)} (ap (λ (t : ℕ). plan_line draws (length counts) t ++ (strata ++ (lines ++ last))) (sym is)) (omega arith) (
       planned.0 ⨾ listed.0 ⨾ drawn ⨾ closed.0,
@@ -56,7 +56,7 @@ answers_written {counts} {ledger} {errors} a s draws {total} is planned listed d
         length-append lines last,
         planned.1,
         listed.1,
-        drawn_short counts ledger errors a.rows a.starts 0 0 s.each,
+        drawn_short counts ledger errors a.plan.rows a.chosen.starts 0 0 s.each,
         closed.1,
       ),
     )

@@ -4,7 +4,7 @@ use mathlib.Core.Bool.{Bool, true}
 use mathlib.Core.List.{List, [], ◌∷◌}
 use Prim.Native.Nat.{ℕ, ◌+◌, ◌≤◌, ◌<◌}
 use native.Mathlib.Omega.{arith}
-use borrow.Author.Tests.{eq-eqb, eqb-true, eqb-false}
+use borrow.Author.Tests.{eq-eqb, ne_eqb, lt-ltb, eqb-true, eqb-false}
 use lib.Dec.{T, eqb, ltb}
 use lib.IntN.{ℤ}
 use lib.ListN.{length, get_or, drop, length-map}
@@ -20,7 +20,7 @@ use Rattle.shares.specs.Shares.{with_value}
 use Rattle.strata.specs.declared.Row.{Row}
 use Rattle.strata.specs.Strata.{parts_of, books_of, no_row, plan_from, checked_of, plan_of}
 use Rattle.strata.specs.Starts.{agree, rows_started, started_of}
-use Rattle.strata.proofs.Planning.{parts_many, rows_many, plan_facts, too_many_strata}
+use Rattle.strata.proofs.Planning.{parts_many, rows_many, plan_facts}
 use Rattle.starts.specs.Starts.{starts_of, starts_in}
 use Rattle.starts.proofs.Laws.{starts_many, starts_fit, starts_give}
 use Rattle.project.specs.Project.{projection_at}
@@ -155,10 +155,16 @@ parted_gives draws counts words ledger errors few same add =
     (λ r. absurd (eqb-false (sum counts) (length ledger) r add)))))
     (λ total. gives_among (8 ∷ 23 ∷ []) parted_numbers tt (plan_from (parts_of counts ledger) draws) (plan_from_gives (parts_of counts ledger) draws)))
 
+too_many_strata : (ledger counts : List ℕ) (same : Bool) → most_strata < length counts → checked_of ledger counts same ≡ refused 22 0
+unfolding checked_of
+too_many_strata ledger counts same many =
+    let some : length counts ≡ 0 → ⊥ = λ none. omega (arith, none, many) in
+    simp (ne_eqb (length counts) 0 some, lt-ltb most_strata (length counts) many)
+
 -- more strata than a ledger may have are refused, whatever they hold
 pub too_many : (draws : ℕ) (counts words ledger : List ℕ) (errors : List ℤ) → most_strata < length counts → handout_text draws counts words ledger errors ≡ refused_line 22 0
 unfolding handout_text handout_of plan_of
 too_many draws counts words ledger errors many =
     let same : Bool = eqb (length errors) (length ledger) in
     ap (λ (o : Outcome ℕ). text_by (answers_text draws counts ledger errors) (after (started_with draws counts words ledger errors) (after (λ total. plan_from (parts_of counts ledger) draws) o)))
-    (sym (too_many_strata ledger counts same (λ none. omega (arith, none, many)) many))
+    (too_many_strata ledger counts same many)

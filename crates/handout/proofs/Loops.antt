@@ -13,14 +13,14 @@ use Rattle.pen.proofs.Writing.{Left, left_all, left_more, left_none}
 use Rattle.strata.specs.declared.Row.{Row}
 use Rattle.strata.specs.Strata.{parts_of, no_row}
 use Rattle.strata.specs.Steps.{Parted}
-use Rattle.strata.proofs.Pieces.{part_sum, Place, place_none, reach, place_next, parts_past, part_at, to_come, later_on, come_on, part_long}
+use Rattle.strata.proofs.Pieces.{part_sum, Place, reach, place_next, parts_past, part_at, to_come, later_on, come_on, part_long}
 use Rattle.stratified.specs.declared.projection.ProjectionRow.{ProjectionRow}
 use Rattle.stratified.specs.Projection.{no_projection}
 use Rattle.steps.specs.Steps.{Shown}
 use Rattle.sheet.specs.Lines.{ledger_text}
 use Rattle.sheet.proofs.Room.{ledger_short}
 use Rattle.handout.specs.Lines.{stratum_line, strata_text, drawn_text, sums_line, sums_text}
-use Rattle.handout.specs.Shows.{EachShown, Shows}
+use Rattle.handout.specs.Shows.{EachShown}
 
 -- ---- the sums of the strata
 
@@ -54,9 +54,6 @@ summing_none {strata} {rows} {old} {at} few =
 
 module _ {strata : ℕ} {rows : List ProjectionRow} {old : List ℕ} {at : ℕ} {new : List ℕ} {to h : ℕ} (so_far : Summing strata rows old at new to h) where
   module _ (inside : h < strata) where
-    pub sums_inside : h < 32
-    sums_inside = let f = so_far.few in omega arith
-
     pub summing_more : {new' : List ℕ} {to' : ℕ} → Wrote new to (sums_line h (get_or rows h no_projection)) new' to' × (length (sums_line h (get_or rows h no_projection)) ≤ 110) →
         Summing strata rows old at new' to' (h + 1)
     summing_more w =
@@ -96,9 +93,6 @@ module _ (ledger counts : List ℕ) (rows : List Row) (starts words : List ℕ) 
   unfolding strata_text
   strata_past at h end = ap (λ (l : List (List ℕ)). strata_text h l rows starts words) (parts_past ledger counts at h end)
 
-  abbrev strata_all : List ℕ
-  strata_all = strata_text 0 (parts_of counts ledger) rows starts words
-
   -- those of the strata before h are written
   pub record Stratifying (old : List ℕ) (from : ℕ) (new : List ℕ) (to at h : ℕ) : Type 0 where
     pub given : Parted ledger counts
@@ -106,14 +100,8 @@ module _ (ledger counts : List ℕ) (rows : List Row) (starts words : List ℕ) 
     pub left : Left old from (strata_text 0 (parts_of counts ledger) rows starts words) new to (strata_text h (to_come ledger counts at h) rows starts words)
     pub short : length (strata_text 0 (parts_of counts ledger) rows starts words) ≤ 239 * h + length (strata_text h (to_come ledger counts at h) rows starts words)
 
-  pub stratifying_none : {old : List ℕ} {from : ℕ} → Parted ledger counts → Stratifying old from old from 0 0
-  stratifying_none given = record { given = given; place = place_none given.add; left = left_all; short = omega arith }
-
   module _ {old : List ℕ} {from : ℕ} {new : List ℕ} {to at h : ℕ} (so_far : Stratifying old from new to at h) where
     module _ (inside : h < length counts) where
-      pub stratum_inside : h < 32
-      stratum_inside = let f = so_far.given.few in omega arith
-
       pub stratum_fits : sum (part_at ledger counts at h) < 2 ^ 64
       stratum_fits = let m = so_far.given.most in omega (arith, part_sum (at + get_or counts h 0 - at) at ledger)
 
@@ -179,17 +167,8 @@ module _ (ledger counts : List ℕ) (rows : List Row) (starts : List ℕ) (error
     pub each : EachShown h at (to_come ledger counts at h) rows (to_come errors counts at h)
     pub left : Left old from (drawn_text 0 0 (parts_of counts ledger) rows starts (parts_of counts errors)) new to (drawn_text h at (to_come ledger counts at h) rows starts (to_come errors counts at h))
 
-  pub drawing_none : {old : List ℕ} {from : ℕ} → Shows counts ledger errors rows → Drawing old from old from 0 0
-  drawing_none s = record { given = s.parted; same = s.same; place = place_none s.parted.add; each = s.each; left = left_all }
-
   module _ {old : List ℕ} {from : ℕ} {new : List ℕ} {to at h : ℕ} (so_far : Drawing old from new to at h) where
     module _ (inside : h < length counts) where
-      pub drawing_inside : h < 32
-      drawing_inside = let f = so_far.given.few in omega arith
-
-      pub drawing_far : at + get_or counts h 0 ≤ length errors
-      drawing_far = omega (arith, reach so_far.place inside, so_far.same)
-
       pub drawing_asks : Shown at (get_or rows h no_row).figures.interval (part_at ledger counts at h) (part_at errors counts at h)
       drawing_asks = (each_on at h inside (reach so_far.place inside) so_far.each).0
 

@@ -1,72 +1,52 @@
 -- The text of a content, from the plan on, as the chain of operations meets it, and its room. Assumes nothing.
 use Prim.Native.Nat.{ℕ, ◌-◌, ◌≤◌}
-use mathlib.Core.Path.{◌≡◌, refl, sym, ap, ◌∙◌}
-use mathlib.Core.Bool.{Bool}
-use mathlib.Core.List.{List, []}
+use Rattle.std.specs.Prelude.{Ok, Err}
+use mathlib.Core.Path.{◌≡◌, sym, ap, subst, ◌∙◌}
+use mathlib.Core.Bool.{true}
+use mathlib.Core.List.{List}
 use native.Mathlib.Omega.{arith}
 use lib.Dec.{eqb}
-use lib.IntN.{ℤ, pos, ◌-ℤ◌}
-use lib.ListN.{length, take, replicate, length-append, length-replicate, length-map}
+use lib.IntN.{ℤ}
+use lib.ListN.{length, take, replicate, length-map}
 use lib.Seq.{take_at}
 use Rattle.terms.specs.declared.Refusal.{Refusal}
 use Rattle.terms.specs.Refusals.{number, place}
-use Rattle.terms.specs.Outcome.{Outcome, accepted, refused, refused_by, after, left}
+use Rattle.terms.specs.Outcome.{Outcome, accepted, refused, refused_by, after}
 use Rattle.terms.specs.Limits.{most_lines, most_strata}
 use Rattle.terms.specs.Numbers.{pad_to}
-use Rattle.terms.proofs.Outcomes.{never}
+use Rattle.terms.proofs.Outcomes.{never, after_accepted}
 use Rattle.pen.specs.Page as Page
 use Rattle.start.specs.declared.Chosen.{Chosen}
 use Rattle.strata.specs.declared.Row.{Row}
-use Rattle.strata.specs.declared.Planned.{Planned as Plan}
-use Rattle.strata.specs.declared.StrataAnswer.{StrataAnswer}
-use Rattle.strata.specs.declared.StrataAnswer.TheVariants as answered
-use Rattle.strata.specs.Strata.{parts_of, no_row, plan_of, strata_says, PlanPromise}
-use Rattle.strata.proofs.Planning.{moved, promised_rows, promised_refusal, parts_many, rows_many, plan_facts}
+use Rattle.strata.specs.declared.Planned.{Planned}
+use Rattle.strata.specs.Strata.{parts_of, no_row, plan_of, PlanPromise}
+use Rattle.strata.proofs.Planning.{promised_rows, promised_refusal, parts_many, rows_many, plan_facts}
 use Rattle.starts.specs.declared.Starts.{Starts}
-use Rattle.starts.specs.Starts.{starts_of, starts_in, words_in, StartsPromise}
+use Rattle.starts.specs.Starts.{starts_of, starts_in, starts_with, StartsPromise}
 use Rattle.starts.proofs.Laws.{starts_many}
 use Rattle.stratified.specs.declared.projection.ProjectionRow.{ProjectionRow}
 use Rattle.stratified.specs.declared.projection.ProjectedStrata.{ProjectedStrata}
-use Rattle.stratified.specs.Projection.{no_projection, project_strata_of, rows_in, over_all, under_all, ProjectStrataPromise}
+use Rattle.stratified.specs.Projection.{sums_with, project_strata_of, ProjectStrataPromise}
 use Rattle.sheet.specs.Lines.{refused_line}
 use Rattle.sheet.specs.Sheet.{text_by}
 use Rattle.sheet.proofs.Paging.{as_bounded}
 use Rattle.handout.specs.declared.Answers.{Answers}
 use Rattle.handout.specs.Lines.{answers_text}
-use Rattle.handout.specs.Handout.{sums_with, answers_with, projected_with, started_with, handout_of, handout_text, longest_for, room_for}
-use Rattle.handout.specs.Shows.{Shows, Planned}
+use Rattle.handout.specs.Handout.{answers_with, projected_with, started_with, handout_of, handout_text, longest_for, room_for}
+use Rattle.handout.specs.Shows.{Shows}
+use Rattle.handout.proofs.Laws.{figured}
 use Rattle.handout.proofs.Showing.{shows}
 
 module _ {A : Type 0} where
-  -- an answer of strata that is given, and one that is refused
-  given : (o : Outcome (List A)) {a : StrataAnswer} {k : ℕ} → strata_says a ≡ after (λ l. accepted (length l)) o → a ≡ answered.Strata k → (l : List A) × (o ≡ accepted l)
-  given (accepted l) said is = (l, refl)
-  given (refused n p) said is = never (sym (sym (ap strata_says is) ∙ said))
-
-  not_given : (o : Outcome (List A)) {a : StrataAnswer} {why : Refusal} → strata_says a ≡ after (λ l. accepted (length l)) o → a ≡ answered.Refused why → o ≡ refused_by why
-  not_given (accepted l) {why = why} said is = never (sym (ap strata_says is) ∙ said)
-  not_given (refused n p) {why = why} said is =
-      let both : ◌≡◌ {A = Outcome ℕ} (refused n p) (refused_by why) = sym said ∙ ap strata_says is in
-      cc
-
   -- the entries of a list in an array
   take_padded : (m k : ℕ) (none : A) (l : List A) → length l ≡ k → take k (pad_to m none l) ≡ l
   unfolding pad_to
   take_padded m k none l e = take_at l (replicate (m - length l) none) k e
 
-  padded_long : (m : ℕ) (none : A) (l : List A) → length l ≤ m → length (pad_to m none l) ≡ m
-  unfolding pad_to
-  padded_long m none l h = omega (arith, length-append l (replicate (m - length l) none), length-replicate (m - length l) none)
-
--- the figures of an outcome's rows
-abbrev sums_rows : Outcome (List ProjectionRow) → List ProjectionRow
-sums_rows o = pad_to most_strata no_projection (rows_in o)
-
-abbrev sums_over : Outcome (List ProjectionRow) → ℕ
-sums_over o = over_all (rows_in o)
-
-abbrev sums_under : Outcome (List ProjectionRow) → ℕ
-sums_under o = under_all (rows_in o)
+-- a refusal is the same whatever follows
+refused_on : {A B C : Type 0} (f : A → B) (next : A → Outcome C) (o : Outcome A) (why : Refusal) → refused_by why ≡ after (λ a. accepted (f a)) o → refused_by why ≡ after next o
+refused_on f next (accepted a) why e = never e
+refused_on f next (refused number place) why e = cc
 
 -- the definition from the plan on
 from_plan : (draws : ℕ) (counts words ledger : List ℕ) (errors : List ℤ) {o : Outcome (List Row)} → plan_of ledger counts draws (eqb (length errors) (length ledger)) ≡ o →
@@ -96,128 +76,94 @@ module _ (draws : ℕ) (counts words ledger : List ℕ) (errors : List ℤ) wher
   unfolding room_for
   some_room = omega arith
 
-  refused_text : (why : Refusal) {o o' : List ℕ} {a a' : ℕ} → handout_of draws counts words ledger errors ≡ refused_by why →
+  pub refused_text : (why : Refusal) {o o' : List ℕ} {a a' : ℕ} → handout_of draws counts words ledger errors ≡ refused_by why →
       Page.Wrote o a (refused_line (number why) (place why)) o' a' × (length (refused_line (number why) (place why)) ≤ 50) →
       Page.Wrote o a (handout_text draws counts words ledger errors) o' a' × (length (handout_text draws counts words ledger errors) ≤ room_for (length ledger) (length counts))
   refused_text why e w = as_bounded (text_of e) (omega (arith, some_room)) w
 
-  -- as `print_handout` meets the plan
-  module _ {same : Bool} (is : same ≡ eqb (length errors) (length ledger)) {p : Plan} (m : PlanPromise (plan_of ledger counts draws same) p) where
-    own_plan : PlanPromise (plan_of ledger counts draws (eqb (length errors) (length ledger))) p
-    own_plan = moved (ap (plan_of ledger counts draws) is) m
+  -- as `print_handout` meets the sheet
+  module _ {a : Answers} (e : accepted a ≡ handout_of draws counts words ledger errors) where
+    pub answers_shown : Shows counts ledger errors a.plan.rows
+    answers_shown =
+        let f = figured draws counts words ledger errors a (sym e) in
+        subst (λ (b : Answers). Shows counts ledger errors b.plan.rows) (sym f.answers) (shows draws f.rows f.plan (starts_in f.chosen) f.sums f.projected)
 
-    pub plan_refused : {why : Refusal} {o o' : List ℕ} {a a' : ℕ} → p.answer ≡ answered.Refused why →
-        Page.Wrote o a (refused_line (number why) (place why)) o' a' × (length (refused_line (number why) (place why)) ≤ 50) →
-        Page.Wrote o a (handout_text draws counts words ledger errors) o' a' × (length (handout_text draws counts words ledger errors) ≤ room_for (length ledger) (length counts))
-    plan_refused {why} r w = refused_text why (from_plan draws counts words ledger errors (promised_refusal _ own_plan r)) w
+    pub answers_printed : {o o' : List ℕ} {k k' : ℕ} →
+        Page.Wrote o k (answers_text draws counts ledger errors a) o' k' × (length (answers_text draws counts ledger errors a) ≤ longest_for (length ledger) (length counts)) →
+        Page.Wrote o k (handout_text draws counts words ledger errors) o' k' × (length (handout_text draws counts words ledger errors) ≤ room_for (length ledger) (length counts))
+    answers_printed w =
+        let f = figured draws counts words ledger errors a (sym e) in
+        as_bounded (text_of (sym e)) (enough_room (plan_facts ledger counts draws true f.rows f.plan).checks.good.few answers_shown) w
 
-    pub plan_given : {strata : ℕ} → p.answer ≡ answered.Strata strata → Planned draws counts ledger errors p.rows
-    plan_given r = let g = promised_rows _ own_plan r in record { own = g.0; plan = g.1; array = (moved g.1 own_plan).rows }
+  -- as `answers_of` meets the plan, the starts and the projection
+  abbrev planned : Outcome (List Row)
+  planned = plan_of ledger counts draws (eqb (length errors) (length ledger))
 
-  -- as `print_planned` meets the starts and the projection
-  module _ {rows : List Row} (p : Planned draws counts ledger errors rows) where
+  pub plan_refused : (why : Refusal) → PlanPromise (plan_of ledger counts draws (eqb (length errors) (length ledger))) (Err why) → refused_by why ≡ handout_of draws counts words ledger errors
+  plan_refused why m = sym (from_plan draws counts words ledger errors (promised_refusal planned why m))
+
+  module _ {p : Planned} (m : PlanPromise (plan_of ledger counts draws (eqb (length errors) (length ledger))) (Ok p)) where
+    abbrev own : List Row
+    own = (promised_rows planned m).0
+
+    known : planned ≡ accepted own
+    known = (promised_rows planned m).1.0
+
     pub planned_few : length counts ≤ most_strata
-    planned_few = (plan_facts ledger counts draws (eqb (length errors) (length ledger)) p.own p.plan).checks.few
+    planned_few = (plan_facts ledger counts draws (eqb (length errors) (length ledger)) own known).checks.few
 
-    planned_short : length ledger ≤ most_lines
-    planned_short = (plan_facts ledger counts draws (eqb (length errors) (length ledger)) p.own p.plan).checks.good.few
-
-    own_many : length p.own ≡ length counts
+    own_many : length own ≡ length counts
     own_many =
-        let f = plan_facts ledger counts draws (eqb (length errors) (length ledger)) p.own p.plan in
+        let f = plan_facts ledger counts draws (eqb (length errors) (length ledger)) own known in
         ap length f.shared ∙ rows_many (parts_of counts ledger) _ ∙ parts_many counts ledger
 
-    own_rows : take (length counts) rows ≡ p.own
-    own_rows = ap (take (length counts)) p.array ∙ take_padded most_strata (length counts) no_row p.own own_many
+    own_rows : take (length counts) p.rows ≡ own
+    own_rows = ap (λ (q : Planned). take (length counts) q.rows) (promised_rows planned m).1.1 ∙ take_padded most_strata (length counts) no_row own own_many
 
-    from_rows : handout_of draws counts words ledger errors ≡ started_with draws counts words ledger errors p.own
-    from_rows = from_plan draws counts words ledger errors p.plan
+    pub rows_few : length (take (length counts) p.rows) ≤ most_strata
+    rows_few = let f = planned_few in omega (arith, ap length own_rows, own_many)
 
-    module _ {s : Starts} (m : StartsPromise (starts_of (take (length counts) rows) words) s) where
-      said : strata_says s.answer ≡ after (λ l. accepted (length l)) (starts_of p.own words)
-      said = m.answer ∙ ap (λ (l : List Row). after (λ (k : List Chosen). accepted (length k)) (starts_of l words)) own_rows
+    from_rows : after (projected_with draws counts ledger errors own) (starts_of (take (length counts) p.rows) words) ≡ handout_of draws counts words ledger errors
+    from_rows = ap (λ (l : List Row). after (projected_with draws counts ledger errors own) (starts_of l words)) own_rows ∙ sym (from_plan draws counts words ledger errors known)
 
-      pub starts_refused : {why : Refusal} {o o' : List ℕ} {a a' : ℕ} → s.answer ≡ answered.Refused why →
-          Page.Wrote o a (refused_line (number why) (place why)) o' a' × (length (refused_line (number why) (place why)) ≤ 50) →
-          Page.Wrote o a (handout_text draws counts words ledger errors) o' a' × (length (handout_text draws counts words ledger errors) ≤ room_for (length ledger) (length counts))
-      starts_refused {why} r w =
-          refused_text why (from_rows ∙ ap (after (projected_with draws counts ledger errors p.own)) (not_given (starts_of p.own words) said r)) w
+    pub starts_refused : (why : Refusal) → StartsPromise (starts_of (take (length counts) p.rows) words) (Err why) → refused_by why ≡ handout_of draws counts words ledger errors
+    starts_refused why t = refused_on starts_with (projected_with draws counts ledger errors own) (starts_of (take (length counts) p.rows) words) why t ∙ from_rows
 
-      module _ {strata : ℕ} (r : s.answer ≡ answered.Strata strata) where
-        abbrev all : List Chosen
-        all = (given (starts_of p.own words) said r).0
+    module _ {s : Starts} (t : StartsPromise (starts_of (take (length counts) p.rows) words) (Ok s)) where
+      drawn : (all : List Chosen) × (starts_of (take (length counts) p.rows) words ≡ accepted all) × (accepted (starts_with all) ≡ accepted s)
+      drawn = after_accepted (λ (all : List Chosen). accepted (starts_with all)) (starts_of (take (length counts) p.rows) words) s (sym t)
 
-        chosen : starts_of (take (length counts) rows) words ≡ accepted all
-        chosen = ap (λ (l : List Row). starts_of l words) own_rows ∙ (given (starts_of p.own words) said r).1
+      abbrev all : List Chosen
+      all = drawn.0
 
-        all_many : length (starts_in all) ≡ length counts
-        all_many = length-map all (λ (c : Chosen). c.start) ∙ starts_many p.own words all (given (starts_of p.own words) said r).1 ∙ own_many
+      array : s ≡ starts_with all
+      array = let e = drawn.2 in cc
 
-        starts_array : s.starts ≡ pad_to most_strata 0 (starts_in all)
-        starts_array = m.starts ∙ ap (λ (o : Outcome (List Chosen)). pad_to most_strata 0 (starts_in (left (λ l. l) [] o))) chosen
+      all_many : length (starts_in all) ≡ length counts
+      all_many =
+          length-map all (λ (c : Chosen). c.start) ∙ starts_many own words all (ap (λ (l : List Row). starts_of l words) (sym own_rows) ∙ drawn.1) ∙ own_many
 
-        words_array : s.words ≡ pad_to most_strata 0 (words_in all)
-        words_array = m.words ∙ ap (λ (o : Outcome (List Chosen)). pad_to most_strata 0 (words_in (left (λ l. l) [] o))) chosen
+      own_starts : take (length counts) s.starts ≡ starts_in all
+      own_starts = ap (λ (q : Starts). take (length counts) q.starts) array ∙ take_padded most_strata (length counts) 0 (starts_in all) all_many
 
-        own_starts : take (length counts) s.starts ≡ starts_in all
-        own_starts = ap (take (length counts)) starts_array ∙ take_padded most_strata (length counts) 0 (starts_in all) all_many
+      from_starts : projected_with draws counts ledger errors own all ≡ handout_of draws counts words ledger errors
+      from_starts = sym (ap (after (projected_with draws counts ledger errors own)) drawn.1) ∙ from_rows
 
-        pub starts_long : length counts ≤ length s.starts
-        starts_long = let f = planned_few in omega (arith, ap length starts_array, padded_long most_strata 0 (starts_in all) (omega (arith, all_many)))
+      abbrev projected : Outcome (List ProjectionRow)
+      projected = project_strata_of ledger counts draws (take (length counts) s.starts) errors
 
-        pub starts_lent : length counts ≡ length (take (length counts) s.starts)
-        starts_lent = sym (ap length own_starts ∙ all_many)
+      from_sums : after (λ sums. accepted (answers_with own all sums)) projected ≡ handout_of draws counts words ledger errors
+      from_sums = ap (λ (l : List ℕ). after (λ sums. accepted (answers_with own all sums)) (project_strata_of ledger counts draws l errors)) own_starts ∙ from_starts
 
-        from_starts : handout_of draws counts words ledger errors ≡ projected_with draws counts ledger errors p.own all
-        from_starts = from_rows ∙ ap (after (projected_with draws counts ledger errors p.own)) (given (starts_of p.own words) said r).1
+      pub sums_refused : (why : Refusal) → ProjectStrataPromise (project_strata_of ledger counts draws (take (length counts) s.starts) errors) (Err why) →
+          refused_by why ≡ handout_of draws counts words ledger errors
+      sums_refused why q = refused_on sums_with (λ sums. accepted (answers_with own all sums)) projected why q ∙ from_sums
 
-        module _ {q : ProjectedStrata} (n : ProjectStrataPromise (project_strata_of ledger counts draws (take (length counts) s.starts) errors) q) where
-          abbrev projected : Outcome (List ProjectionRow)
-          projected = project_strata_of ledger counts draws (take (length counts) s.starts) errors
-
-          at_starts : projected ≡ project_strata_of ledger counts draws (starts_in all) errors
-          at_starts = ap (λ (l : List ℕ). project_strata_of ledger counts draws l errors) own_starts
-
-          pub projection_refused : {why : Refusal} {o o' : List ℕ} {a a' : ℕ} → q.answer ≡ answered.Refused why →
-              Page.Wrote o a (refused_line (number why) (place why)) o' a' × (length (refused_line (number why) (place why)) ≤ 50) →
-              Page.Wrote o a (handout_text draws counts words ledger errors) o' a' × (length (handout_text draws counts words ledger errors) ≤ room_for (length ledger) (length counts))
-          projection_refused {why} t w =
-              refused_text why (from_starts ∙ ap (after (λ sums. accepted (answers_with p.own all sums))) (sym at_starts ∙ not_given projected n.answer t)) w
-
-          module _ {k : ℕ} (t : q.answer ≡ answered.Strata k) where
-            abbrev sums : List ProjectionRow
-            sums = (given projected n.answer t).0
-
-            found : projected ≡ accepted sums
-            found = (given projected n.answer t).1
-
-            pub answers_shown : Shows counts ledger errors rows
-            answers_shown = shows p (take (length counts) s.starts) sums found
-
-            -- the figures are those of the definition
-            count : answered.Strata k ≡ answered.Strata (length sums)
-            count =
-                let both : ◌≡◌ {A = Outcome ℕ} (accepted k) (accepted (length sums)) =
-                sym (ap strata_says t) ∙ n.answer ∙ ap (after (λ (l : List ProjectionRow). accepted (length l))) found in
-                let same : k ≡ length sums = cc in
-                ap answered.Strata same
-
-            own_sums : q ≡ sums_with sums
-            own_sums = λ i. record {
-              answer = (t ∙ count) i;
-              over = (n.over ∙ ap (λ (o : Outcome (List ProjectionRow)). sums_over o) found) i;
-              under = (n.under ∙ ap (λ (o : Outcome (List ProjectionRow)). sums_under o) found) i;
-              net = (n.net ∙ ap (λ (o : Outcome (List ProjectionRow)). pos (sums_over o) -ℤ pos (sums_under o)) found) i;
-              rows = (n.rows ∙ ap (λ (o : Outcome (List ProjectionRow)). sums_rows o) found) i;
-            }
-
-            own_answers : ◌≡◌ {A = Answers} (record { rows = rows; starts = s.starts; words = s.words; sums = q }) (answers_with p.own all sums)
-            own_answers = λ i. record { rows = p.array i; starts = starts_array i; words = words_array i; sums = own_sums i }
-
-            outcome : handout_of draws counts words ledger errors ≡ accepted (record { rows = rows; starts = s.starts; words = s.words; sums = q })
-            outcome = from_starts ∙ ap (after (λ sums. accepted (answers_with p.own all sums))) (sym at_starts ∙ found) ∙ ap accepted (sym own_answers)
-
-            pub answers_printed : {o o' : List ℕ} {a a' : ℕ} → let made : Answers = record { rows = rows; starts = s.starts; words = s.words; sums = q } in
-                Page.Wrote o a (answers_text draws counts ledger errors made) o' a' × (length (answers_text draws counts ledger errors made) ≤ longest_for (length ledger) (length counts)) →
-                Page.Wrote o a (handout_text draws counts words ledger errors) o' a' × (length (handout_text draws counts words ledger errors) ≤ room_for (length ledger) (length counts))
-            answers_printed w = as_bounded (text_of outcome) (enough_room planned_short answers_shown) w
+      pub answered : {q : ProjectedStrata} → ProjectStrataPromise (project_strata_of ledger counts draws (take (length counts) s.starts) errors) (Ok q) →
+          ◌≡◌ {A = Outcome Answers} (accepted (record { plan = p; chosen = s; sums = q })) (handout_of draws counts words ledger errors)
+      answered {q} k =
+          let f = after_accepted (λ (sums : List ProjectionRow). accepted (sums_with sums)) projected q (sym k) in
+          let sums : List ProjectionRow = f.0 in
+          let last : q ≡ sums_with sums = let e = f.2 in cc in
+          (λ i. accepted (record { plan = (promised_rows planned m).1.1 i; chosen = array i; sums = last i }))
+          ∙ sym (ap (after (λ sums. accepted (answers_with own all sums))) f.1) ∙ from_sums

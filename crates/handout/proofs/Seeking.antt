@@ -1,6 +1,6 @@
 -- Whether a line has an error, as the loop along the errors meets it. Assumes nothing.
 use Prim.Native.Nat.{ℕ, ◌+◌, ◌≤◌, ◌<◌}
-use mathlib.Core.Path.{◌≡◌, refl, sym, ap, ◌∙◌}
+use mathlib.Core.Path.{◌≡◌, sym, ap, ◌∙◌}
 use mathlib.Core.Bool.{true, false}
 use mathlib.Core.List.{List, ◌∷◌}
 use native.Mathlib.Numerals.{add-one}
@@ -22,9 +22,6 @@ any_on errors line inside = rw (add-one line) (ap any_error (drop-cons errors li
 pub record Seeking (errors : List ℤ) (line : ℕ) : Type 0 where
   pub inside : line ≤ length errors
   pub rest : any_error (drop line errors) ≡ any_error errors
-
-pub seeking_none : {errors : List ℤ} → Seeking errors 0
-seeking_none = record { inside = omega arith; rest = refl }
 
 module _ {errors : List ℤ} {line : ℕ} (so_far : Seeking errors line) where
   module _ (here : line < length errors) (fits : SFits w64 (get_or errors line (pos 0))) {size : ℕ} (told : size ≡ size_of (held (get_or errors line (pos 0)))) where

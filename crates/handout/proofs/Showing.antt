@@ -1,12 +1,11 @@
 -- What the plan, the starts and the projection have shown of each stratum where they accept. Assumes nothing.
 use Prim.Native.Nat.{ℕ, suc, ◌+◌, ◌≤◌}
-use mathlib.Core.Path.{◌≡◌, refl, sym, ap, subst, ◌∙◌}
+use Rattle.std.specs.Prelude.{Ok}
+use mathlib.Core.Path.{◌≡◌, sym, ap, subst, ◌∙◌}
 use mathlib.Core.Bool.{true}
 use mathlib.Core.List.{List, [], ◌∷◌}
 use native.Mathlib.Numerals.{add-one}
 use native.Mathlib.Omega.{arith}
-use borrow.Author.Tests.{eq-eqb}
-use lib.Dec.{eqb}
 use lib.IntN.{ℤ}
 use lib.ListN.{length, get_or, take, drop, length-append, length-take, take-append-drop}
 use lib.Seq.{drop-drop}
@@ -20,20 +19,17 @@ use Rattle.project.specs.declared.Projection.{Projection}
 use Rattle.project.specs.Project.{projection_at}
 use Rattle.project.proofs.Laws.{projected_facts}
 use Rattle.strata.specs.declared.Row.{Row}
-use Rattle.strata.specs.declared.Planned.{Planned as Plan}
-use Rattle.strata.specs.declared.StrataAnswer.TheVariants.{Strata}
-use Rattle.strata.specs.Strata.{parts_of, no_row, plan_of, PlanPromise}
+use Rattle.strata.specs.Strata.{parts_of, no_row, plan_with, plan_of, PlanPromise}
 use Rattle.strata.specs.Starts.{started_of}
 use Rattle.strata.proofs.Pieces.{here_at}
 use Rattle.strata.proofs.Padded.{padded_at}
-use Rattle.strata.proofs.Planning.{moved}
 use Rattle.strata.proofs.Starting.{started_facts}
 use Rattle.stratified.specs.declared.projection.ProjectionRow.{ProjectionRow}
 use Rattle.stratified.specs.Marks.{Underway}
 use Rattle.stratified.specs.Projection.{projection_row, projected_from, project_strata_of}
 use Rattle.stratified.proofs.Underway.{underway}
 use Rattle.steps.specs.Steps.{Shown}
-use Rattle.handout.specs.Shows.{EachShown, Shows, Planned}
+use Rattle.handout.specs.Shows.{EachShown, Shows}
 
 -- a stratum's projection and those after it, where all are accepted
 record Step (first : ℕ) (part : List ℕ) (later : List (List ℕ)) (rows : List Row) (starts : List ℕ) (own : List ℤ) (errors : List (List ℤ)) : Type 0 where
@@ -82,20 +78,19 @@ module _ (rows own : List Row) (starts : List ℕ) (alike : (k : ℕ) → get_or
       (shown, each_shown counts (drop count ledger) (drop count errors) (suc h) (first + length part) s.others (omega arith) (omega arith) (omega arith) rest)
 
 -- of the whole ledger, from the plan's rows in their array and a projection that is accepted
-pub shows : {draws : ℕ} {counts ledger : List ℕ} {errors : List ℤ} {rows : List Row} → Planned draws counts ledger errors rows → (starts : List ℕ) (all : List ProjectionRow) →
-    project_strata_of ledger counts draws starts errors ≡ accepted all → Shows counts ledger errors rows
+pub shows : (draws : ℕ) {counts ledger : List ℕ} {errors : List ℤ} (own : List Row) → plan_of ledger counts draws true ≡ accepted own → (starts : List ℕ) (all : List ProjectionRow) →
+    project_strata_of ledger counts draws starts errors ≡ accepted all → Shows counts ledger errors (pad_to most_strata no_row own)
 unfolding project_strata_of
-shows {draws} {counts} {ledger} {errors} {rows} p starts all e =
-    let a = after_accepted (λ (own : List Row). projected_from 0 (parts_of counts ledger) own starts (parts_of counts errors)) (started_of ledger counts draws starts (length errors)) all e in
+shows draws {counts} {ledger} {errors} own planned starts all e =
+    let a = after_accepted (λ (rows : List Row). projected_from 0 (parts_of counts ledger) rows starts (parts_of counts errors)) (started_of ledger counts draws starts (length errors)) all e in
     let f = started_facts ledger counts draws starts (length errors) a.0 a.1 in
-    let lent : eqb (length errors) (length ledger) ≡ true = eq-eqb _ _ f.same in
-    let one : accepted p.own ≡ accepted a.0 = sym p.plan ∙ ap (plan_of ledger counts draws) lent ∙ f.plan in
-    let same : p.own ≡ a.0 = cc in
-    let array : pad_to most_strata no_row a.0 ≡ rows = ap (pad_to most_strata no_row) (sym same) ∙ sym p.array in
-    let plan : Plan = record { answer = Strata (length a.0); rows = pad_to most_strata no_row a.0 } in
-    let promise : PlanPromise (started_of ledger counts draws starts (length errors)) plan = moved (sym a.1) (record { answer = refl; rows = refl }) in
+    let one : accepted own ≡ accepted a.0 = sym planned ∙ f.plan in
+    let same : a.0 ≡ own = cc in
+    let rows : List Row = pad_to most_strata no_row own in
+    let array : pad_to most_strata no_row a.0 ≡ rows = ap (pad_to most_strata no_row) same in
+    let promise : PlanPromise (started_of ledger counts draws starts (length errors)) (Ok (plan_with a.0)) = sym (ap (after (λ rows. accepted (plan_with rows))) a.1) in
     let u : Underway ledger counts rows starts (length errors) =
-    subst (λ (l : List Row). Underway ledger counts l starts (length errors)) array (underway ledger counts draws starts (length errors) promise refl) in
+    subst (λ (l : List Row). Underway ledger counts l starts (length errors)) array (underway ledger counts draws starts (length errors) promise) in
     let alike : (k : ℕ) → get_or rows k no_row ≡ get_or a.0 k no_row = λ k. ap (λ (l : List Row). get_or l k no_row) (sym array) ∙ padded_at no_row most_strata a.0 k in
     record {
       parted = u.parted;

@@ -1,39 +1,19 @@
 -- The sheet of a ledger in strata, for every content: the plan, the starts, the projection, each after the refusals of those before it. Definitions: nothing is assumed.
-use Rattle.std.specs.Prelude.{ℕ, ◌+◌, ◌*◌, min, List, eqb, ℤ, pos, ◌-ℤ◌, length}
+use Rattle.std.specs.Prelude.{ℕ, ◌+◌, ◌*◌, min, List, eqb, ℤ, length}
 use Rattle.terms.specs.Outcome.{Outcome, accepted, after}
-use Rattle.terms.specs.Numbers.{pad_to}
 use Rattle.terms.specs.Limits.{most_lines, most_strata}
 use Rattle.start.specs.declared.Chosen.{Chosen}
 use Rattle.strata.specs.declared.Row.{Row}
-use Rattle.strata.specs.declared.StrataAnswer.TheVariants.{Strata}
-use Rattle.strata.specs.Strata.{no_row, plan_of}
-use Rattle.starts.specs.Starts.{starts_of, starts_in, words_in}
+use Rattle.strata.specs.Strata.{plan_with, plan_of}
+use Rattle.starts.specs.Starts.{starts_of, starts_in, starts_with}
 use Rattle.stratified.specs.declared.projection.ProjectionRow.{ProjectionRow}
-use Rattle.stratified.specs.declared.projection.ProjectedStrata.{ProjectedStrata}
-use Rattle.stratified.specs.Projection.{no_projection, project_strata_of, over_all, under_all}
+use Rattle.stratified.specs.Projection.{sums_with, project_strata_of}
 use Rattle.sheet.specs.Sheet.{text_by}
 use Rattle.handout.specs.declared.Answers.{Answers}
 use Rattle.handout.specs.Lines.{answers_text}
 
--- the projection's rows with what they add to, as `project_strata` answers them
-abbrev pub sums_with : List ProjectionRow → ProjectedStrata
-sums_with sums =
-    record {
-      answer = Strata (length sums);
-      over = over_all sums;
-      under = under_all sums;
-      net = pos (over_all sums) -ℤ pos (under_all sums);
-      rows = pad_to most_strata no_projection sums;
-    }
-
 abbrev pub answers_with : List Row → List Chosen → List ProjectionRow → Answers
-answers_with rows chosen sums =
-    record {
-      rows = pad_to most_strata no_row rows;
-      starts = pad_to most_strata 0 (starts_in chosen);
-      words = pad_to most_strata 0 (words_in chosen);
-      sums = sums_with sums;
-    }
+answers_with rows chosen sums = record { plan = plan_with rows; chosen = starts_with chosen; sums = sums_with sums }
 
 -- the projection at the starts chosen: 14 and 15 line by line
 abbrev pub projected_with : ℕ → List ℕ → List ℕ → List ℤ → List Row → List Chosen → Outcome Answers

@@ -63,5 +63,5 @@ errors_text strata errors sums = pick (any_error errors) (closing_text strata su
 unfoldable pub answers_text : ℕ → List ℕ → List ℕ → List ℤ → Answers → List ℕ
 answers_text draws counts ledger errors a =
     plan_line draws (length counts) (sum ledger)
-    ++ (strata_text 0 (parts_of counts ledger) a.rows a.starts a.words
-    ++ (drawn_text 0 0 (parts_of counts ledger) a.rows a.starts (parts_of counts errors) ++ errors_text (length counts) errors a.sums))
+    ++ (strata_text 0 (parts_of counts ledger) a.plan.rows a.chosen.starts a.chosen.words
+    ++ (drawn_text 0 0 (parts_of counts ledger) a.plan.rows a.chosen.starts (parts_of counts errors) ++ errors_text (length counts) errors a.sums))

@@ -1,10 +1,7 @@
 -- What operations that accept have shown of a ledger in strata. Definitions: nothing is assumed.
-use Rattle.std.specs.Prelude.{ℕ, suc, ◌+◌, ◌≡◌, List, [], ◌∷◌, eqb, ℤ, length, get_or, drop}
-use Rattle.terms.specs.Outcome.{accepted}
-use Rattle.terms.specs.Numbers.{pad_to}
-use Rattle.terms.specs.Limits.{most_strata}
+use Rattle.std.specs.Prelude.{ℕ, suc, ◌+◌, ◌≡◌, List, [], ◌∷◌, ℤ, length, get_or, drop}
 use Rattle.strata.specs.declared.Row.{Row}
-use Rattle.strata.specs.Strata.{parts_of, no_row, plan_of}
+use Rattle.strata.specs.Strata.{parts_of, no_row}
 use Rattle.strata.specs.Steps.{Parted}
 use Rattle.steps.specs.Steps.{Shown}
 
@@ -18,9 +15,3 @@ pub record Shows (counts ledger : List ℕ) (errors : List ℤ) (rows : List Row
   pub parted : Parted ledger counts
   pub same : length errors ≡ length ledger
   pub each : EachShown 0 0 (parts_of counts ledger) rows (parts_of counts errors)
-
--- the plan has given these rows, which stand in an array
-pub record Planned (draws : ℕ) (counts ledger : List ℕ) (errors : List ℤ) (rows : List Row) : Type 0 where
-  pub own : List Row
-  pub plan : plan_of ledger counts draws (eqb (length errors) (length ledger)) ≡ accepted own
-  pub array : rows ≡ pad_to most_strata no_row own

@@ -11,6 +11,7 @@ ghost use Rattle.handout.specs.Shows.{Shows};
 
 use crate::Answers;
 use pen::Pen;
+use starts::Starts;
 use strata::Row;
 use stratified::projection::{ProjectedStrata, ProjectionRow};
 use terms::{Cent, Item};
@@ -19,8 +20,7 @@ fn plan_line(pen: Pen, page: &mut [u8], draws: u64, strata: u64, total: u64) -> 
     ensures wrote { Wrote page.old pen.at (plan_line draws strata total) page.new result.at }
     ensures total_len_bound { length (plan_line draws strata total) ≤ 68 }
 {
-    let numbers = [draws, strata, total];
-    pen.line(page, b"plan", &numbers)
+    pen.line(page, b"plan", &[draws, strata, total])
 }
 
 // The line of a stratum: its lines, its row of the plan, its start and the words read for it.
@@ -37,12 +37,11 @@ fn stratum_line(
     ensures wrote { Wrote page.old pen.at (stratum_line number part.now row start words) page.new result.at }
     ensures words_len_bound { length (stratum_line number part.now row start words) ≤ 239 }
 {
-    let book = strata::book_of(part);
     let figures = row.figures;
     let numbers = [
         number,
         part.len() as u64,
-        book,
+        strata::book_of(part),
         row.draws,
         figures.interval,
         figures.draws_left,
@@ -62,35 +61,32 @@ fn strata_lines(
     ledger: &[u64],
     counts: &[u64],
     rows: [Row; 32],
-    starts: [u64; 32],
-    words: [u64; 32],
+    chosen: Starts,
 ) -> Pen
     requires { Parted ledger.now counts.now }
-    ensures wrote { Wrote page.old pen.at (strata_text 0 (parts_of counts.now ledger.now) rows starts words) page.new result.at }
-    ensures words_len_bound { length (strata_text 0 (parts_of counts.now ledger.now) rows starts words) ≤ 239 * length counts.now }
+    ensures wrote { Wrote page.old pen.at (strata_text 0 (parts_of counts.now ledger.now) rows chosen.starts chosen.words) page.new result.at }
+    ensures words_len_bound { length (strata_text 0 (parts_of counts.now ledger.now) rows chosen.starts chosen.words) ≤ 239 * length counts.now }
 {
     let mut next = pen;
     let mut at: usize = 0;
-    let mut h: usize = 0;
-    while h < counts.len() {
-        let to = at + counts[h] as usize;
-        let row = rows[h];
+    for (h, count) in counts.iter().enumerate() {
+        let to = at + *count as usize;
         next = stratum_line(
             next,
             page,
             h as u64,
             &ledger[at..to],
-            row,
-            starts[h],
-            words[h],
+            rows[h],
+            chosen.starts[h],
+            chosen.words[h],
         );
         at = to;
-        h += 1;
     }
     next
 }
 
 // The drawn and full lines of each stratum, at its own interval and start, numbered in the whole ledger.
+// The lists stay apart: no struct of three loans of their own lifetimes is proved here.
 fn drawn_lines(
     pen: Pen,
     page: &mut [u8],
@@ -105,11 +101,9 @@ fn drawn_lines(
 {
     let mut next = pen;
     let mut at: usize = 0;
-    let mut h: usize = 0;
-    while h < counts.len() {
-        let to = at + counts[h] as usize;
-        let row = rows[h];
-        let interval = row.figures.interval;
+    for (h, count) in counts.iter().enumerate() {
+        let to = at + *count as usize;
+        let interval = rows[h].figures.interval;
         let start = Cent(starts[h]);
         next = sheet::lines::ledger_lines(
             next,
@@ -121,7 +115,6 @@ fn drawn_lines(
             start,
         );
         at = to;
-        h += 1;
     }
     next
 }
@@ -148,11 +141,8 @@ fn sums_lines(pen: Pen, page: &mut [u8], strata: usize, rows: [ProjectionRow; 32
     ensures rows_len_bound { length (sums_text strata 0 rows) ≤ 110 * strata }
 {
     let mut next = pen;
-    let mut h: usize = 0;
-    while h < strata {
-        let row = rows[h];
-        next = sums_line(next, page, h as u64, row);
-        h += 1;
+    for h in 0..strata {
+        next = sums_line(next, page, h as u64, rows[h]);
     }
     next
 }
@@ -162,9 +152,9 @@ fn all_line(pen: Pen, page: &mut [u8], sums: ProjectedStrata) -> Pen
     ensures wrote { Wrote page.old pen.at (all_line sums) page.new result.at }
     ensures sums_len_bound { length (all_line sums) ≤ 68 }
 {
-    let numbers = [sums.over, sums.under];
-    let opened = pen.text(page, b"all");
-    let summed = opened.fields(page, &numbers);
+    let summed = pen
+        .text(page, b"all")
+        .fields(page, &[sums.over, sums.under]);
     sheet::lines::net_word(summed, page, sums.net)
 }
 
@@ -172,13 +162,10 @@ fn all_line(pen: Pen, page: &mut [u8], sums: ProjectedStrata) -> Pen
 fn any_error(errors: &[i64]) -> bool
     ensures { result ≡ any_error errors.now }
 {
-    let mut line: usize = 0;
-    while line < errors.len() {
-        let size = signed::size_of(errors[line]);
-        if size > 0 {
+    for error in errors {
+        if signed::size_of(*error) > 0 {
             return true;
         }
-        line += 1;
     }
     false
 }
@@ -196,8 +183,7 @@ fn errors_text(
     ensures sums_len_bound { length (errors_text strata errors.now sums) ≤ 68 + 110 * strata }
 {
     if any_error(errors) {
-        let rows = sums.rows;
-        let summed = sums_lines(pen, page, strata, rows);
+        let summed = sums_lines(pen, page, strata, sums.rows);
         return all_line(summed, page, sums);
     }
     pen
@@ -213,18 +199,22 @@ pub fn answers_text(
     errors: &[i64],
     answers: Answers,
 ) -> Pen
-    requires { Shows counts.now ledger.now errors.now answers.rows }
+    requires { Shows counts.now ledger.now errors.now answers.plan.rows }
     ensures wrote { Wrote page.old pen.at (answers_text draws counts.now ledger.now errors.now answers) page.new result.at }
     ensures answers_len_bound { length (answers_text draws counts.now ledger.now errors.now answers) ≤ longest_for (length ledger.now) (length counts.now) }
 {
+    let Answers { plan, chosen, sums } = answers;
     let strata = counts.len();
-    let total = strata::book_of(ledger);
-    let rows = answers.rows;
-    let starts = answers.starts;
-    let words = answers.words;
-    let sums = answers.sums;
-    let planned = plan_line(pen, page, draws, strata as u64, total);
-    let listed = strata_lines(planned, page, ledger, counts, rows, starts, words);
-    let drawn = drawn_lines(listed, page, ledger, counts, rows, starts, errors);
+    let planned = plan_line(pen, page, draws, strata as u64, strata::book_of(ledger));
+    let listed = strata_lines(planned, page, ledger, counts, plan.rows, chosen);
+    let drawn = drawn_lines(
+        listed,
+        page,
+        ledger,
+        counts,
+        plan.rows,
+        chosen.starts,
+        errors,
+    );
     errors_text(drawn, page, strata, errors, sums)
 }

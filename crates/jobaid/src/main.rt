@@ -2,7 +2,6 @@
 // standard output, or the line of the first refusal. Where the line is no such line it says so to standard error and writes nothing else.
 #![tactic(auto)]
 
-use confidence::LineAnswer;
 use entry::Run;
 use std::io;
 
@@ -10,14 +9,15 @@ use std::io;
 const MOST_LINE: usize = 80;
 
 // One byte more is read, so that a longer line is seen.
-const LINE_ROOM: usize = 81;
+const LINE_ROOM: usize = MOST_LINE + 1;
 
 // The text, or nothing of it where its first line is too long: a number that is cut would be another one.
 fn taken(text: &[u8]) -> &[u8] {
     if entry::fields::reach(text, 0, Run::Line) > MOST_LINE {
-        return parts::front(text, 0);
+        &text[..0]
+    } else {
+        text
     }
-    text
 }
 
 fn main(rt: HostRuntime) -> io::Result<()> {
@@ -25,8 +25,8 @@ fn main(rt: HostRuntime) -> io::Result<()> {
     let mut page = [0u8; confidence::LONGEST_STATEMENT];
     let length = streams::read_full(&mut rt.stdin(), &mut text)?;
     match confidence::answer_line(taken(parts::front(&text, length)), &mut page) {
-        LineAnswer::Answered(bytes) => rt.write_all(&page[..bytes]),
-        LineAnswer::NoLine => rt.stderr().write_all(
+        Some(bytes) => rt.write_all(&page[..bytes]),
+        None => rt.stderr().write_all(
             b"a line is asked for of level, tolerance and exceptions, as 90 5 2\n",
         ),
     }

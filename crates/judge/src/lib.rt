@@ -1,16 +1,13 @@
 // The judgement: upper limit and verdict, steps 6 and 7. Both look at overstatements alone.
 #![tactic(auto)]
 
-ghost use Rattle.std.specs.Prelude.{◌≡◌, ◌+◌, ◌^◌, ◌<◌, length, take};
-ghost use Rattle.terms.specs.Outcome.{accepted};
-ghost use Rattle.ledger.specs.Ledger.{ledger_of};
-ghost use Rattle.project.specs.Project.{Ready};
-ghost use Rattle.judge.specs.Judge.{judge_says, verdict_of, concluded, judged_with, Concludable, judged_at, judged_figures, judged_ledger, JudgePromise};
+ghost use Rattle.std.specs.Prelude.{◌≡◌, ◌+◌, ◌^◌, ◌<◌, take};
+ghost use Rattle.terms.specs.Outcome.{says};
+ghost use Rattle.judge.specs.Judge.{verdict_of, concluded, judged_with, Concludable, judged_at, JudgePromise};
 
-use factors::{Level, LevelAnswer};
-use ledger::LedgerAnswer;
-use project::{ProjectAnswer, Projection};
-use split::SplitAnswer;
+use factors::Level;
+use project::{Entered, Projection};
+use split::Book;
 use terms::{Cent, Item, Refusal};
 
 #[derive(Clone, Copy)]
@@ -29,13 +26,8 @@ pub struct Judgement {
     pub verdict: Verdict,
 }
 
-#[derive(Clone, Copy)]
-pub enum JudgeAnswer {
-    Judged(Judgement),
-    Refused(Refusal),
-}
-
 // Above when the projected error exceeds TE, below only when the upper limit is less than TE, otherwise inconclusive.
+#[tactic(auto, unfolding(crate::specs::Judge::verdict_of))]
 fn verdict_of(te: u64, projected: u64, limit: u64) -> Verdict
     ensures { result ≡ verdict_of te projected limit }
 {
@@ -55,12 +47,11 @@ fn conclude(te: u64, projection: Projection, precision: u64) -> Judgement
 {
     let projected = projection.full + projection.sampled;
     let upper_limit = projected + precision;
-    let verdict = verdict_of(te, projected, upper_limit);
     Judgement {
         projection,
         precision,
         upper_limit,
-        verdict,
+        verdict: verdict_of(te, projected, upper_limit),
     }
 }
 
@@ -71,93 +62,57 @@ pub fn judge_amounts(
     te: u64,
     projection: Projection,
     amounts: &[u64],
-) -> JudgeAnswer
+) -> Result<Judgement, Refusal>
     requires { Concludable interval projection amounts.now }
-    ensures { judge_says result ≡ judged_with level te interval projection (take projection.m amounts.now) }
+    ensures { says result ≡ judged_with level te interval projection (take projection.m amounts.now) }
 {
     let m = projection.m as usize;
     if m > terms::MOST_ERRORS {
-        return JudgeAnswer::Refused(Refusal::TooManyErrors);
+        return Err(Refusal::TooManyErrors);
     }
     let precision = precision::precision(level, interval, &amounts[..m]);
-    let judgement = conclude(te, projection, precision);
-    JudgeAnswer::Judged(judgement)
+    Ok(conclude(te, projection, precision))
 }
 
 // 14 and 15 line by line, then what follows from the amounts, at an interval and a start.
-fn judge_lines(
-    level: Level,
-    ledger: &[u64],
-    interval: u64,
-    start: Cent,
-    errors: &[i64],
-    te: u64,
-) -> JudgeAnswer
-    requires { Ready 0 interval start.0 ledger.now errors.now }
-    ensures { judge_says result ≡ judged_at level ledger.now start.0 errors.now te interval }
+fn judge_lines(level: Level, entered: Entered, te: u64) -> Result<Judgement, Refusal>
+    requires { entered.first.0 ≡ 0 }
+    ensures { says result ≡ judged_at level entered.entry.ledger.now entered.entry.start.0 entered.entry.errors.now te entered.entry.interval }
 {
     let mut amounts = [0u64; terms::MOST_ERRORS];
-    match project::gather(Item(0), ledger, interval, start, errors, &mut amounts) {
-        ProjectAnswer::Refused(why) => JudgeAnswer::Refused(why),
-        ProjectAnswer::Projected(projection) => {
-            judge_amounts(level, interval, te, projection, &amounts)
-        }
-    }
+    let projection = entered.gather(&mut amounts)?;
+    judge_amounts(level, entered.interval, te, projection, &amounts)
 }
 
-// The judgement of a ledger with this total.
-fn judge_total(
-    level: Level,
+// The judgement, with its refusals in the documents' order: 1, the ledger's, 6, 8, 11, 14 and 15, 16. The level is a byte, since 1 is for one that names none.
+#[tactic(auto, using(crate::proofs::Answer::judged), unfolding(crate::specs::Judge::judge_of, crate::specs::Judge::judged_ledger, crate::specs::Judge::judged_figures))]
+pub fn judge(
+    level: u8,
     ledger: &[u64],
     n: u64,
-    start: Cent,
+    start: u64,
     errors: &[i64],
     te: u64,
-    total: u64,
-) -> JudgeAnswer
-    requires { accepted total ≡ ledger_of ledger.now (length errors.now) }
-    ensures { judge_says result ≡ judged_figures level ledger.now n start.0 errors.now te }
-{
-    match split::figures_at(ledger, n, start, total) {
-        SplitAnswer::Refused(why) => JudgeAnswer::Refused(why),
-        SplitAnswer::Split(figures) => {
-            let interval = figures.interval;
-            judge_lines(level, ledger, interval, start, errors, te)
-        }
-    }
-}
-
-// The judgement at a known level: the refusals of the ledger, then 6.
-fn judge_level(
-    level: Level,
-    ledger: &[u64],
-    n: u64,
-    start: Cent,
-    errors: &[i64],
-    te: u64,
-) -> JudgeAnswer
-    ensures { judge_says result ≡ judged_ledger ledger.now n start.0 errors.now te level }
-{
-    match ledger::judge_ledger(ledger, errors.len()) {
-        LedgerAnswer::Refused(why) => JudgeAnswer::Refused(why),
-        LedgerAnswer::Total(total) => {
-            if te == 0 {
-                return JudgeAnswer::Refused(Refusal::ToleranceOutOfRange);
-            }
-            if te > total {
-                return JudgeAnswer::Refused(Refusal::ToleranceOutOfRange);
-            }
-            judge_total(level, ledger, n, start, errors, te, total)
-        }
-    }
-}
-
-// The judgement: projection, precision, upper limit and verdict.
-pub fn judge(level: u8, ledger: &[u64], n: u64, start: u64, errors: &[i64], te: u64) -> JudgeAnswer
+) -> Result<Judgement, Refusal>
     ensures { JudgePromise level ledger.now n start errors.now te result }
 {
-    match factors::level_of(level) {
-        LevelAnswer::Refused(why) => JudgeAnswer::Refused(why),
-        LevelAnswer::Known(known) => { judge_level(known, ledger, n, Cent(start), errors, te) },
+    let level = Level::from_percent(level)?;
+    let total = ledger::judge_ledger(ledger, errors.len())?;
+    if te == 0 || te > total {
+        return Err(Refusal::ToleranceOutOfRange);
     }
+    let start = Cent(start);
+    let book = Book {
+        lines: ledger,
+        total,
+    };
+    let figures = book.figures_at(n, start)?;
+    let entered = Entered {
+        first: Item(0),
+        ledger,
+        errors,
+        interval: figures.interval,
+        start,
+    };
+    judge_lines(level, entered, te)
 }

@@ -1,20 +1,16 @@
--- The cases of `running_from` and of `ledger_with`, as the loop over the lines and the chain of tests meet them. Assumes nothing.
-use mathlib.Core.Path.{◌≡◌, refl, sym, ap, ◌∙◌}
-use mathlib.Core.Bool.{Bool, true, false, not}
+-- The cases of `running_from`, as the loop over the lines meets them, and the refusals before it. Assumes nothing.
+use mathlib.Core.Path.{◌≡◌, refl, sym, ◌∙◌}
+use mathlib.Core.Bool.{Bool, true, not}
 use mathlib.Core.List.{List}
 use Prim.Native.Nat.{ℕ, ◌+◌, ◌≤◌, ◌<◌}
 use native.Mathlib.Numerals.{add-one}
 use native.Mathlib.Omega.{arith}
-use lib.Dec.{eqb}
 use lib.ListN.{length, get_or, drop, drop_of_length-le}
 use lib.Seq.{drop-cons}
-use borrow.Author.Tests.{le-ltb, lt-ltb, eq-eqb, ne_eqb, not-true, not-false}
-use Rattle.terms.specs.declared.Refusal.{Refusal}
-use Rattle.terms.specs.Outcome.{Outcome, accepted, refused, refused_by, after}
+use borrow.Author.Tests.{le-ltb, lt-ltb, not-true}
+use Rattle.terms.specs.Outcome.{accepted, refused}
 use Rattle.terms.specs.Limits.{most_lines, most_value, most_total}
-use Rattle.ledger.specs.declared.LedgerAnswer.{LedgerAnswer}
-use Rattle.ledger.specs.declared.LedgerAnswer.TheVariants.{Total, Refused}
-use Rattle.ledger.specs.Ledger.{ledger_says, running_from, running_total, some_total, ledger_with, ledger_of, LedgerPromise}
+use Rattle.ledger.specs.Ledger.{running_from, running_total, ledger_with}
 
 -- where `judge_lines` stands before a line: judging on from here gives what judging the whole does
 pub record Judging (l : List ℕ) (running line : ℕ) : Type 0 where
@@ -43,7 +39,7 @@ module _ {l : List ℕ} {running line : ℕ} (at : Judging l running line) where
   unfolding running_from
   no_line h = sym (rw (drop_of_length-le l h)) ∙ at.rest
 
--- The order of the refusals, as `judge_lent` meets them.
+-- the refusals before it, in their order
 module _ (l : List ℕ) (same : Bool) where
   pub too_many_lines : most_lines < length l → refused 2 0 ≡ ledger_with l same
   unfolding ledger_with
@@ -52,23 +48,3 @@ module _ (l : List ℕ) (same : Bool) where
   pub lengths_differ : length l ≤ most_lines → not same ≡ true → refused 13 0 ≡ ledger_with l same
   unfolding ledger_with
   lengths_differ few e = sym (simp (le-ltb _ _ few, not-true same e))
-
-  -- what the lines come to
-  module _ {lines : LedgerAnswer} (few : length l ≤ most_lines) (agree : not same ≡ false) (judged : ledger_says lines ≡ running_total l) where
-    from_lines : {o : Outcome ℕ} {seen : LedgerAnswer} → lines ≡ seen → o ≡ after some_total (ledger_says seen) → o ≡ ledger_with l same
-    unfolding ledger_with
-    from_lines e f = f ∙ ap (λ a. after some_total (ledger_says a)) (sym e) ∙ sym (simp (le-ltb _ _ few, not-false same agree, sym judged))
-
-    pub line_refused : {why : Refusal} → lines ≡ Refused why → refused_by why ≡ ledger_with l same
-    line_refused e = from_lines e refl
-
-    pub total_zero : {total : ℕ} → lines ≡ Total total → total ≡ 0 → refused 5 0 ≡ ledger_with l same
-    total_zero e z = from_lines e (sym (simp (eq-eqb _ _ z)))
-
-    pub some_total_lem : {total : ℕ} → lines ≡ Total total → (total ≡ 0 → ⊥) → accepted total ≡ ledger_with l same
-    some_total_lem e n = from_lines e (sym (simp (ne_eqb _ _ n)))
-
--- as `judge_ledger` meets it
-pub one_lent : {l : List ℕ} {beside : ℕ} {r : LedgerAnswer} → ledger_says r ≡ ledger_with l (eqb beside (length l)) → LedgerPromise l beside r
-unfolding ledger_of
-one_lent e = record { answer = e }

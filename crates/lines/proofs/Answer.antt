@@ -1,53 +1,24 @@
--- From the figures for a start and the lines' check to the answer and the amounts, as the code meets them. Assumes nothing.
+-- From the figures for a start and the lines' check to the answer and the amounts. Assumes nothing.
 use mathlib.Core.Path.{◌≡◌, sym, ap, ◌∙◌}
+use Rattle.std.specs.Prelude.{Ok, Err}
 use mathlib.Core.List.{List}
 use Prim.Native.Nat.{ℕ}
 use native.Mathlib.Omega.{arith}
 use lib.IntN.{ℤ, pos}
 use lib.ListN.{length, get_or}
 use Rattle.terms.specs.declared.Refusal.{Refusal}
-use Rattle.terms.specs.Outcome.{Outcome, accepted, after, left}
+use Rattle.terms.specs.Outcome.{Outcome, accepted, refused_by, after, left}
 use Rattle.signed.specs.declared.Part.TheVariants.{Size}
 use Rattle.signed.specs.Parts.{parts}
 use Rattle.signed.proofs.Laws.{part_is_size, parts_at}
 use Rattle.split.specs.declared.Figures.{Figures}
-use Rattle.split.specs.declared.SplitAnswer.{SplitAnswer}
-use Rattle.split.specs.declared.SplitAnswer.TheVariants as split
-use Rattle.split.specs.Split.{split_says}
-use Rattle.split.specs.Start.{figures_for, FiguresForPromise}
+use Rattle.split.specs.Start.{figures_for}
 use Rattle.split.proofs.Start.{start_facts}
 use Rattle.project.specs.declared.Projection.{Projection}
-use Rattle.project.specs.declared.ProjectAnswer.{ProjectAnswer}
-use Rattle.project.specs.declared.ProjectAnswer.TheVariants.{Projected, Refused}
-use Rattle.project.specs.Project.{project_says, checked_lines, lines_with, projected_by, Ready}
-use Rattle.project.specs.Gather.{GatherPromise}
+use Rattle.project.specs.Project.{checked_lines, lines_with, projection_at, projected_by, Ready}
 use Rattle.project.proofs.Laws.{projection_refused, ProjectedFacts, projected_facts, ready}
-use Rattle.lines.specs.Each.{amounts_with, length_beside, lines_for, project_lines_of, Writable, AtPromise, LinesPromise}
+use Rattle.lines.specs.Each.{amounts_with, length_beside, lines_for, project_lines_of, Writable, LinesPromise}
 use Rattle.lines.proofs.Beside.{beside_same}
-
--- at an interval and a start
-module _ {J start : ℕ} {ledger : List ℕ} {errors : List ℤ} {kept kept' : List ℕ} {r : ProjectAnswer} (amounts : List ℤ) (gathered : GatherPromise 0 J start ledger errors kept r kept') where
-  pub check_refused : {why : Refusal} → r ≡ Refused why → AtPromise J start ledger errors amounts (Refused why) amounts
-  check_refused told =
-      let answer = sym (ap project_says told) ∙ gathered.answer in
-      record { answer = answer; amounts_left = ap (left (amounts_with errors) amounts) (sym (projection_refused 0 J start ledger errors answer)) }
-
-  module _ {sums : Projection} (told : r ≡ Projected sums) (at : Ready 0 J start ledger errors) where
-    known : ProjectedFacts 0 J start ledger errors sums
-    known = projected_facts 0 J start ledger errors sums at.early (sym gathered.answer ∙ ap project_says told)
-
-    pub check_writable : length amounts ≡ length ledger → Writable J ledger errors amounts
-    check_writable same =
-        record {
-          narrow = at.narrow;
-          errors_same = at.same;
-          amounts_same = same;
-          within = λ item more. omega (arith, (known.facts Size).within item more, parts_at Size errors item, part_is_size (get_or errors item (pos 0)));
-        }
-
-    pub check_passed : {amounts' : List ℤ} → amounts' ≡ amounts_with errors (lines_with Size J start ledger errors) → AtPromise J start ledger errors amounts (Projected sums) amounts'
-    check_passed written =
-        record { answer = sym (ap project_says told) ∙ gathered.answer; amounts_left = written ∙ ap (left (amounts_with errors) amounts) (sym (known.lines Size)) }
 
 -- the lines, and their projection, are what follows from the figures for a start
 module _ (ledger : List ℕ) (n start : ℕ) (errors : List ℤ) (beside : ℕ) where
@@ -59,35 +30,50 @@ module _ (ledger : List ℕ) (n start : ℕ) (errors : List ℤ) (beside : ℕ) 
   unfolding project_lines_of
   projection_from e = ap (after (projected_by ledger start errors)) e
 
-module _ (ledger : List ℕ) {n start : ℕ} (errors amounts : List ℤ) {beside : ℕ} {r : SplitAnswer} (is : beside ≡ length_beside (length ledger) (length errors) (length amounts))
-    (promised : FiguresForPromise ledger n start beside r) where
-  figures_are : {o : Outcome Figures} → split_says r ≡ o → o ≡ figures_for ledger n start (length_beside (length ledger) (length errors) (length amounts))
-  figures_are e = sym e ∙ promised.answer ∙ ap (figures_for ledger n start) is
+-- where the figures for the start are accepted
+module _ (ledger : List ℕ) (n start : ℕ) (errors amounts : List ℤ) (beside : ℕ) (f : Figures) (is : beside ≡ length_beside (length ledger) (length errors) (length amounts))
+    (told : accepted f ≡ figures_for ledger n start beside) where
+  figures_are : accepted f ≡ figures_for ledger n start (length_beside (length ledger) (length errors) (length amounts))
+  figures_are = told ∙ ap (figures_for ledger n start) is
 
-  pub lines_not_started : {why : Refusal} → r ≡ split.Refused why → LinesPromise ledger n start errors amounts (Refused why) amounts
-  lines_not_started told =
-      let e = figures_are (ap split_says told) in
-      record { answer = projection_from ledger n start errors _ e; amounts_left = ap (left (amounts_with errors) amounts) (lines_from_lem ledger n start errors _ e) }
+  judged_same : length_beside (length ledger) (length errors) (length amounts) ≡ length ledger
+  judged_same = (start_facts ledger n start _ f (sym figures_are)).facts.ledger_good.same
 
-  module _ {f : Figures} (told : r ≡ split.Split f) where
-    accepted_figures : figures_for ledger n start (length_beside (length ledger) (length errors) (length amounts)) ≡ accepted f
-    accepted_figures = sym (figures_are (ap split_says told))
+  pub lines_ready : Ready 0 f.interval start ledger errors
+  lines_ready =
+      let same = beside_same (length ledger) (length errors) (length amounts) judged_same in
+      ready ledger n start errors f (ap (figures_for ledger n start) (same.0 ∙ sym judged_same) ∙ sym figures_are)
 
-    judged_same : length_beside (length ledger) (length errors) (length amounts) ≡ length ledger
-    judged_same = (start_facts ledger n start _ f accepted_figures).facts.ledger_good.same
+  -- the projection is refused, and so are the lines
+  pub lines_refused : (why : Refusal) → refused_by why ≡ projection_at 0 f.interval start ledger errors → LinesPromise ledger n start errors amounts (Err why) amounts
+  lines_refused why e =
+      record {
+        answer = e ∙ projection_from ledger n start errors _ figures_are;
+        amounts_left =
+            ap (left (amounts_with errors) amounts) (sym (projection_refused 0 f.interval start ledger errors e))
+            ∙ ap (left (amounts_with errors) amounts) (lines_from_lem ledger n start errors _ figures_are);
+      }
 
-    pub lines_ready : Ready 0 f.interval start ledger errors
-    lines_ready =
-        let same = beside_same (length ledger) (length errors) (length amounts) judged_same in
-        ready ledger n start errors f (ap (figures_for ledger n start) (same.0 ∙ sym judged_same) ∙ accepted_figures)
+  -- or it is told, and every line has passed
+  module _ (sums : Projection) (e : accepted sums ≡ projection_at 0 f.interval start ledger errors) where
+    known : ProjectedFacts 0 f.interval start ledger errors sums
+    known = projected_facts 0 f.interval start ledger errors sums lines_ready.early (sym e)
 
-    pub lines_same : length amounts ≡ length ledger
-    lines_same = (beside_same (length ledger) (length errors) (length amounts) judged_same).1
-
-    pub lines_projected : {a : ProjectAnswer} {amounts' : List ℤ} → AtPromise f.interval start ledger errors amounts a amounts' → LinesPromise ledger n start errors amounts a amounts'
-    lines_projected at =
-        let e = figures_are (ap split_says told) in
+    pub lines_writable : Writable f.interval ledger errors amounts
+    lines_writable =
+        let at = lines_ready in
         record {
-          answer = at.answer ∙ projection_from ledger n start errors _ e;
-          amounts_left = at.amounts_left ∙ ap (left (amounts_with errors) amounts) (lines_from_lem ledger n start errors _ e);
+          narrow = at.narrow;
+          errors_same = at.same;
+          amounts_same = (beside_same (length ledger) (length errors) (length amounts) judged_same).1;
+          within = λ item more. omega (arith, (known.facts Size).within item more, parts_at Size errors item, part_is_size (get_or errors item (pos 0)));
+        }
+
+    pub lines_projected : {amounts' : List ℤ} → amounts' ≡ amounts_with errors (lines_with Size f.interval start ledger errors) → LinesPromise ledger n start errors amounts (Ok sums) amounts'
+    lines_projected written =
+        record {
+          answer = e ∙ projection_from ledger n start errors _ figures_are;
+          amounts_left =
+              written ∙ ap (left (amounts_with errors) amounts) (sym (known.lines Size))
+              ∙ ap (left (amounts_with errors) amounts) (lines_from_lem ledger n start errors _ figures_are);
         }

@@ -1,19 +1,12 @@
 -- The length that is judged beside the ledger's: it is the ledger's exactly where that of the errors and that of the amounts are. Assumes nothing.
 use mathlib.Core.Path.{◌≡◌, refl, sym, ◌∙◌}
 use Prim.Native.Nat.{ℕ}
-use borrow.Author.Tests.{eqb-true, eqb-false, eq-eqb, ne_eqb}
+use borrow.Author.Tests.{eqb-true, eqb-false}
 use lib.Dec.{eqb}
 use Rattle.terms.proofs.Tests.{by_test}
 use Rattle.lines.specs.Each.{length_beside}
 
 module _ (ledger errors amounts : ℕ) where
-  -- as `length_beside` meets it
-  pub beside_amounts : errors ≡ ledger → amounts ≡ length_beside ledger errors amounts
-  beside_amounts e = sym (simp (eq-eqb _ _ e))
-
-  pub beside_errors : (errors ≡ ledger → ⊥) → errors ≡ length_beside ledger errors amounts
-  beside_errors e = sym (simp (ne_eqb _ _ e))
-
   -- where it is the ledger's, both are
   pub beside_same : length_beside ledger errors amounts ≡ ledger → (errors ≡ ledger) × (amounts ≡ ledger)
   beside_same =

@@ -2,6 +2,7 @@
 -- the amounts: what was there after a refusal, and else an entry for each line. Those of a kind add to its two sums, and all to the net. Assumes
 -- nothing.
 use mathlib.Core.Path.{◌≡◌, refl, sym, ap, ◌∙◌}
+use Rattle.std.specs.Prelude.{Ok, Err}
 use mathlib.Core.Bool.{Bool, true, false}
 use mathlib.Core.List.{List, [], ◌∷◌}
 use Prim.Native.Nat.{ℕ, ◌+◌, ◌≤◌}
@@ -30,7 +31,6 @@ use Rattle.project.specs.declared.State.TheVariants.{NotDrawn, Drawn, Full}
 use Rattle.project.specs.declared.Line.{Line}
 use Rattle.project.specs.declared.Sums.{Sums}
 use Rattle.project.specs.declared.Projection.{Projection}
-use Rattle.project.specs.declared.ProjectAnswer.TheVariants.{Projected, Refused}
 use Rattle.project.specs.Lines.{full_part, sampled_part, sums_of}
 use Rattle.project.specs.Project.{checked_lines, lines_with, projected_by, project_of}
 use Rattle.project.specs.Gather.{line_at, lines_walk}
@@ -131,13 +131,13 @@ lines_refuse ledger start errors (refused k p) {number} {place} e =
 
 module _ {ledger : List ℕ} {n start : ℕ} {errors amounts amounts' : List ℤ} where
   -- after a refusal the amounts are what they were
-  pub refused_leaves : {why : Refusal} → LinesPromise ledger n start errors amounts (Refused why) amounts' → amounts' ≡ amounts
+  pub refused_leaves : {why : Refusal} → LinesPromise ledger n start errors amounts (Err why) amounts' → amounts' ≡ amounts
   refused_leaves p =
       let judged = beside ledger n start errors amounts in
       let refuses = lines_refuse ledger start errors (figures_for ledger n start judged) (p.answer ∙ sym (projection_from ledger n start errors judged refl)) in
       p.amounts_left ∙ ap (left (amounts_with errors) amounts) (sym (lines_from_lem ledger n start errors judged refl) ∙ refuses)
 
-  module _ {p : Projection} (promised : LinesPromise ledger n start errors amounts (Projected p) amounts') where
+  module _ {p : Projection} (promised : LinesPromise ledger n start errors amounts (Ok p) amounts') where
     pub amounts_facts : AmountsFacts ledger n start errors amounts p amounts'
     amounts_facts =
         let judged = beside ledger n start errors amounts in

@@ -31,7 +31,7 @@ use Rattle.project.specs.Project.{lines_with}
 use Rattle.project.specs.Gather.{line_at, lines_walk}
 use Rattle.project.proofs.Lines.{lines_walked, walk_on, walk_end}
 use Rattle.project.proofs.Amounts.{amount_most, amount_none}
-use Rattle.lines.specs.Each.{projects_by, projects, each_projects, amounts_with, projects_at, Writable}
+use Rattle.lines.specs.Each.{projects_by, projects, each_projects, amounts_with, projects_at}
 
 -- what a line k that is l projects, by its state, as `projected` meets it
 module _ (l k : Line) (same : k ≡ l) where
@@ -80,9 +80,6 @@ module _ (e : ℤ) (fits : SFits w64 e) where
     is_size : size ≡ size_of e
     is_size = size_read e fits.sfits told
 
-    pub size_within : (v : ℕ) → size_of e ≤ v → size ≤ v
-    size_within v within = omega (arith, is_size)
-
     module _ (J next v : ℕ) {amount : ℕ} (projected : amount ≡ projects (line_at J next v size)) where
       is_amount : amount ≡ projects (line_at J next v (size_of e))
       is_amount = projected ∙ ap (λ (x : ℕ). projects (line_at J next v x)) is_size
@@ -93,11 +90,6 @@ module _ (e : ℤ) (fits : SFits w64 e) where
 
       pub signed_amount : (r : ℤ) → mag r < 2 ^ 63 → r ≡ signed_of amount (lt_z (held e) (pos 0)) → held r ≡ projects_at J next v e
       signed_amount r ok is = kept r ok ∙ is ∙ (λ i. signed_of (is_amount i) (is_kind i))
-
--- as `signed_amount` asks it of a line
-pub error_within : {J : ℕ} {ledger : List ℕ} {errors amounts : List ℤ} {item : ℕ} → Writable J ledger errors amounts → item < length ledger →
-    mag (get_or errors item (pos 0)) < 2 ^ 63 → size_of (held (get_or errors item (pos 0))) ≤ get_or ledger item 0
-error_within {errors = errors} {item = item} w more fits = omega (arith, ap size_of (kept (get_or errors item (pos 0)) fits), w.within item more)
 
 pub record Written (J start : ℕ) (ledger : List ℕ) (errors : List ℤ) (next item : ℕ) (amounts : List ℤ) : Type 0 where
   pub inside : item ≤ length ledger

@@ -1,15 +1,16 @@
 -- The projected lines: what each line of the projection projects, with the sign of its error, and the answer beside it. Definitions: nothing is
 -- assumed.
-use Rattle.std.specs.Prelude.{ℕ, ◌≤◌, ◌<◌, ◌≡◌, List, map, eqb, ℤ, pos, length, get_or}
-use Rattle.terms.specs.Outcome.{Outcome, after, left}
+use Rattle.std.specs.Prelude.{ℕ, ◌≤◌, ◌<◌, ◌≡◌, List, map, eqb, ℤ, pos, length, get_or, Result}
+use Rattle.terms.specs.declared.Refusal.{Refusal}
+use Rattle.terms.specs.Outcome.{Outcome, after, left, says}
 use Rattle.terms.specs.Numbers.{pick}
 use Rattle.terms.specs.Limits.{most_interval}
 use Rattle.signed.specs.declared.Part.TheVariants.{Size}
 use Rattle.signed.specs.Errors.{size_of, is_under, signed_of}
 use Rattle.signed.specs.Parts.{parts, with_signs}
 use Rattle.split.specs.Start.{figures_for}
-use Rattle.project.specs.declared.{State.State, Line.Line, Projection.Projection, ProjectAnswer.ProjectAnswer}
-use Rattle.project.specs.Project.{project_says, checked_lines, projection_at, projected_by}
+use Rattle.project.specs.declared.{State.State, Line.Line, Projection.Projection}
+use Rattle.project.specs.Project.{checked_lines, projected_by}
 use Rattle.project.specs.Gather.{line_at}
 
 -- the size of what a line projects: that of its error where it is full, its amount where it is drawn, 0 elsewhere
@@ -46,14 +47,9 @@ unfoldable pub project_lines_of : List ℕ → ℕ → ℕ → List ℤ → ℕ 
 project_lines_of ledger n start errors beside = after (projected_by ledger start errors) (figures_for ledger n start beside)
 
 -- what `project_lines` promises: the answer, and the amounts, which a refusal leaves
-pub record LinesPromise (ledger : List ℕ) (n start : ℕ) (errors amounts : List ℤ) (r : ProjectAnswer) (amounts' : List ℤ) : Type 0 where
-  pub answer : project_says r ≡ project_lines_of ledger n start errors (length_beside (length ledger) (length errors) (length amounts))
+pub record LinesPromise (ledger : List ℕ) (n start : ℕ) (errors amounts : List ℤ) (r : Result Projection Refusal) (amounts' : List ℤ) : Type 0 where
+  pub answer : says r ≡ project_lines_of ledger n start errors (length_beside (length ledger) (length errors) (length amounts))
   pub amounts_left : amounts' ≡ left (amounts_with errors) amounts (lines_for ledger n start errors (length_beside (length ledger) (length errors) (length amounts)))
-
--- at an interval and a start
-pub record AtPromise (J start : ℕ) (ledger : List ℕ) (errors amounts : List ℤ) (r : ProjectAnswer) (amounts' : List ℤ) : Type 0 where
-  pub answer : project_says r ≡ projection_at 0 J start ledger errors
-  pub amounts_left : amounts' ≡ left (amounts_with errors) amounts (checked_lines 0 J start ledger (parts Size errors))
 
 -- what the writing asks: an error and an amount for each line, and no error larger than its line's value
 pub record Writable (J : ℕ) (ledger : List ℕ) (errors amounts : List ℤ) : Type 0 where

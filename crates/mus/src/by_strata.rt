@@ -1,6 +1,5 @@
 // A ledger by strata: plan, draw and projection.
 ghost use Rattle.std.specs.Prelude.{true};
-ghost use Rattle.draw.specs.Draw.{draw_says};
 ghost use Rattle.strata.specs.Strata.{plan_of, PlanPromise};
 ghost use Rattle.stratified.specs.Marks.{DrawStrataPromise};
 ghost use Rattle.stratified.specs.Projection.{project_strata_of, ProjectStrataPromise};
@@ -12,9 +11,9 @@ use results::{StrataDrawResult, StrataPlanResult, StrataProjectResult};
 // Each stratum's draws, and its own split.
 #[unsafe(no_mangle)]
 pub extern "C" fn mus_strata_plan(ledger: &[u64], counts: &[u64], n: u64) -> StrataPlanResult
-    ensures { Sees strata_plan_seen (λ a. a) (PlanPromise (plan_of ledger.now counts.now n true)) result }
+    ensures { Sees strata_plan_seen (PlanPromise (plan_of ledger.now counts.now n true)) result }
 {
-    results::by_strata::of_strata_plan(strata::plan(ledger, counts, n))
+    strata::plan(ledger, counts, n).into()
 }
 
 // The draw of each stratum, and the marks of the whole ledger.
@@ -26,10 +25,9 @@ pub extern "C" fn mus_strata_draw(
     starts: &[u64],
     marks: &mut [u8],
 ) -> StrataDrawResult
-    ensures { Sees strata_draw_seen draw_says (λ a. DrawStrataPromise ledger.now counts.now n starts.now marks.old a marks.new) result }
+    ensures { Sees strata_draw_seen (λ a. DrawStrataPromise ledger.now counts.now n starts.now marks.old a marks.new) result }
 {
-    let drawn = stratified::marks::draw_strata(ledger, counts, n, starts, marks);
-    results::by_strata::of_strata_draw(drawn)
+    stratified::marks::draw_strata(ledger, counts, n, starts, marks).into()
 }
 
 // The projection of each stratum, and over all of them.
@@ -41,8 +39,7 @@ pub extern "C" fn mus_strata_project(
     starts: &[u64],
     errors: &[i64],
 ) -> StrataProjectResult
-    ensures { Sees strata_project_seen (λ a. a) (ProjectStrataPromise (project_strata_of ledger.now counts.now n starts.now errors.now)) result }
+    ensures { Sees strata_project_seen (ProjectStrataPromise (project_strata_of ledger.now counts.now n starts.now errors.now)) result }
 {
-    let projected = stratified::projection::project_strata(ledger, counts, n, starts, errors);
-    results::by_strata::of_strata_project(projected)
+    stratified::projection::project_strata(ledger, counts, n, starts, errors).into()
 }

@@ -1,7 +1,4 @@
 // Two teams on one ledger: the split, the draw and findings by the acting team's own bits of the marks. A team is a byte, 0x41 or 0x42.
-ghost use Rattle.split.specs.Split.{split_says};
-ghost use Rattle.draw.specs.Draw.{draw_says};
-ghost use Rattle.findings.specs.Findings.{post_says};
 ghost use Rattle.teams.specs.Teams.{TeamSplitPromise, TeamDrawPromise, TeamPostPromise, TeamPostAllPromise};
 ghost use Rattle.results.specs.Seen.{Sees};
 ghost use Rattle.results.specs.Results.{split_seen, draw_seen};
@@ -12,9 +9,9 @@ use results::{DrawResult, PostResult, SplitResult};
 // A team's split, and the marks: in its own bits 2 for full, 0 for the others.
 #[unsafe(no_mangle)]
 pub extern "C" fn mus_team_split(team: u8, ledger: &[u64], n: u64, marks: &mut [u8]) -> SplitResult
-    ensures { Sees split_seen split_says (λ a. TeamSplitPromise team ledger.now n marks.old a marks.new) result }
+    ensures { Sees split_seen (λ a. TeamSplitPromise team ledger.now n marks.old a marks.new) result }
 {
-    results::method::of_split(teams::team_split(team, ledger, n, marks))
+    teams::team_split(team, ledger, n, marks).into()
 }
 
 // A team's draw, and the marks: in its own bits 1 for drawn, 2 for full, 0 for the others.
@@ -26,9 +23,9 @@ pub extern "C" fn mus_team_draw(
     start: u64,
     marks: &mut [u8],
 ) -> DrawResult
-    ensures { Sees draw_seen draw_says (λ a. TeamDrawPromise team ledger.now n start marks.old a marks.new) result }
+    ensures { Sees draw_seen (λ a. TeamDrawPromise team ledger.now n start marks.old a marks.new) result }
 {
-    results::method::of_draw(teams::team_draw(team, ledger, n, start, marks))
+    teams::team_draw(team, ledger, n, start, marks).into()
 }
 
 // One finding of a team: the error of a line.
@@ -41,9 +38,9 @@ pub extern "C" fn mus_team_post(
     line: u64,
     error: i64,
 ) -> PostResult
-    ensures { Sees post_seen post_says (λ a. TeamPostPromise team ledger.now marks.now errors.old line error a errors.new) result }
+    ensures { Sees post_seen (λ a. TeamPostPromise team ledger.now marks.now errors.old line error a errors.new) result }
 {
-    results::posting::of_post(teams::team_post(team, ledger, marks, errors, line, error))
+    teams::team_post(team, ledger, marks, errors, line, error).into()
 }
 
 // A batch of a team's findings: the pairs before a refused one stay posted.
@@ -56,7 +53,7 @@ pub extern "C" fn mus_team_post_all(
     lines: &[u64],
     found: &[i64],
 ) -> PostResult
-    ensures { Sees post_seen post_says (λ a. TeamPostAllPromise team ledger.now marks.now errors.old lines.now found.now a errors.new) result }
+    ensures { Sees post_seen (λ a. TeamPostAllPromise team ledger.now marks.now errors.old lines.now found.now a errors.new) result }
 {
-    results::posting::of_post(teams::team_post_all(team, ledger, marks, errors, lines, found))
+    teams::team_post_all(team, ledger, marks, errors, lines, found).into()
 }

@@ -1,5 +1,5 @@
 // The attribute job aid for control tests.
-ghost use Rattle.attributes.specs.Attributes.{items_says, bound_says, ItemsPromise, BoundPromise};
+ghost use Rattle.attributes.specs.Attributes.{ItemsPromise, BoundPromise};
 ghost use Rattle.results.specs.Seen.{Sees};
 ghost use Rattle.results.specs.Control.{items_seen, bound_seen};
 
@@ -8,9 +8,9 @@ use results::{AttributeBoundResult, AttributeSizeResult};
 // The sample size.
 #[unsafe(no_mangle)]
 pub extern "C" fn mus_attribute_size(level: u8, tolerance: u8) -> AttributeSizeResult
-    ensures { Sees items_seen items_says (ItemsPromise level tolerance) result }
+    ensures { Sees items_seen (ItemsPromise level tolerance) result }
 {
-    results::control::of_items(attributes::size(level, tolerance))
+    attributes::size(level, tolerance).into()
 }
 
 // The upper bound for the exceptions found.
@@ -20,7 +20,7 @@ pub extern "C" fn mus_attribute_bound(
     tolerance: u8,
     exceptions: u64,
 ) -> AttributeBoundResult
-    ensures { Sees bound_seen bound_says (BoundPromise level tolerance exceptions) result }
+    ensures { Sees bound_seen (BoundPromise level tolerance exceptions) result }
 {
-    results::control::of_bound(attributes::bound(level, tolerance, exceptions))
+    attributes::bound(level, tolerance, exceptions).into()
 }

@@ -1,7 +1,7 @@
 // The working file: reader and writer, the salvage of one that was cut, and the sheet of a file.
-ghost use Rattle.workfile.specs.Promises.{plan_with, read_says, write_says, ReadPromise, WritePromise};
-ghost use Rattle.salvaging.specs.Salvage.{salvage_says, SalvagePromise};
-ghost use Rattle.sheet.specs.Sheet.{sheet_says, SheetPromise};
+ghost use Rattle.workfile.specs.Promises.{plan_with, ReadPromise, WritePromise};
+ghost use Rattle.salvaging.specs.Salvage.{SalvagePromise};
+ghost use Rattle.sheet.specs.Sheet.{SheetPromise};
 ghost use Rattle.results.specs.Seen.{Sees};
 ghost use Rattle.results.specs.Results.{read_seen, write_seen, sheet_seen};
 ghost use Rattle.results.specs.Salvage.{salvage_seen};
@@ -16,9 +16,9 @@ pub extern "C" fn mus_read(
     values: &mut [u64],
     errors: &mut [i64],
 ) -> ReadResult
-    ensures { Sees read_seen read_says (λ a. ReadPromise file.now words.old values.old errors.old a words.new values.new errors.new) result }
+    ensures { Sees read_seen (λ a. ReadPromise file.now words.old values.old errors.old a words.new values.new errors.new) result }
 {
-    results::file::of_read(reader::read(file, words, values, errors))
+    reader::read(file, words, values, errors).into()
 }
 
 // Writes a working file into the buffer.
@@ -32,23 +32,23 @@ pub extern "C" fn mus_write(
     errors: &[i64],
     file: &mut [u8],
 ) -> WriteResult
-    ensures { Sees write_seen write_says (λ a. WritePromise (plan_with level te ae) words.now values.now errors.now file.old a file.new) result }
+    ensures { Sees write_seen (λ a. WritePromise (plan_with level te ae) words.now values.now errors.now file.old a file.new) result }
 {
-    results::file::of_write(writer::write(level, te, ae, words, values, errors, file))
+    writer::write(level, te, ae, words, values, errors, file).into()
 }
 
 // Mends a working file that was cut, into the second buffer.
 #[unsafe(no_mangle)]
 pub extern "C" fn mus_salvage(file: &[u8], out: &mut [u8]) -> SalvageResult
-    ensures { Sees salvage_seen salvage_says (λ a. SalvagePromise file.now out.old a out.new) result }
+    ensures { Sees salvage_seen (λ a. SalvagePromise file.now out.old a out.new) result }
 {
-    results::salvage::of_salvage(salvaging::salvage(file, out))
+    salvaging::salvage(file, out).into()
 }
 
 // Prints the sheet of what stands on the desk program's standard input onto the page.
 #[unsafe(no_mangle)]
 pub extern "C" fn mus_sheet(input: &[u8], page: &mut [u8]) -> SheetResult
-    ensures { Sees sheet_seen sheet_says (λ a. SheetPromise input.now page.old a page.new) result }
+    ensures { Sees sheet_seen (λ a. SheetPromise input.now page.old a page.new) result }
 {
-    results::file::of_sheet(sheet::sheet_in(input, page))
+    sheet::sheet_in(input, page).into()
 }

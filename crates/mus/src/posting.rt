@@ -1,5 +1,5 @@
 // Findings posted beside the ledger, singly or by the batch.
-ghost use Rattle.findings.specs.Findings.{post_says, PostPromise};
+ghost use Rattle.findings.specs.Findings.{PostPromise};
 ghost use Rattle.findings.specs.Batch.{PostAllPromise};
 ghost use Rattle.results.specs.Seen.{Sees};
 ghost use Rattle.results.specs.Findings.{post_seen};
@@ -15,9 +15,9 @@ pub extern "C" fn mus_post(
     line: u64,
     error: i64,
 ) -> PostResult
-    ensures { Sees post_seen post_says (λ a. PostPromise ledger.now marks.now errors.old line error a errors.new) result }
+    ensures { Sees post_seen (λ a. PostPromise ledger.now marks.now errors.old line error a errors.new) result }
 {
-    results::posting::of_post(findings::post(ledger, marks, errors, line, error))
+    findings::post(ledger, marks, errors, line, error).into()
 }
 
 // A batch of findings, as a list of lines and one of errors: the pairs before a refused one stay posted.
@@ -29,7 +29,7 @@ pub extern "C" fn mus_post_all(
     lines: &[u64],
     found: &[i64],
 ) -> PostResult
-    ensures { Sees post_seen post_says (λ a. PostAllPromise ledger.now marks.now errors.old lines.now found.now a errors.new) result }
+    ensures { Sees post_seen (λ a. PostAllPromise ledger.now marks.now errors.old lines.now found.now a errors.new) result }
 {
-    results::posting::of_post(findings::post_all(ledger, marks, errors, lines, found))
+    findings::post_all(ledger, marks, errors, lines, found).into()
 }

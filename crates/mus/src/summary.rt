@@ -1,8 +1,8 @@
 // Totals beside the ledger: the summary built, kept right, asked and checked.
-ghost use Rattle.totals.specs.Summary.{total_says, BuildPromise, TotalPromise};
-ghost use Rattle.totals.specs.Lookup.{find_says, FindPromise};
-ghost use Rattle.totals.specs.Comparison.{check_says, CheckPromise};
-ghost use Rattle.upkeep.specs.Upkeep.{count_says, ChangePromise, AppendPromise};
+ghost use Rattle.totals.specs.Summary.{BuildPromise, TotalPromise};
+ghost use Rattle.totals.specs.Lookup.{FindPromise};
+ghost use Rattle.totals.specs.Comparison.{CheckPromise};
+ghost use Rattle.upkeep.specs.Upkeep.{ChangePromise, AppendPromise};
 ghost use Rattle.results.specs.Seen.{Sees};
 ghost use Rattle.results.specs.Totals.{totals_build_seen, totals_total_seen, totals_find_seen, totals_change_seen, totals_append_seen, totals_check_seen};
 
@@ -19,17 +19,17 @@ pub extern "C" fn mus_totals_build(
     count: usize,
     summary: &mut [u64],
 ) -> TotalsBuildResult
-    ensures { Sees totals_build_seen total_says (λ a. BuildPromise room.now count summary.old a summary.new) result }
+    ensures { Sees totals_build_seen (λ a. BuildPromise room.now count summary.old a summary.new) result }
 {
-    results::summary::of_build(totals::build(room, count, summary))
+    totals::build(room, count, summary).into()
 }
 
 // The grand total as it stands.
 #[unsafe(no_mangle)]
 pub extern "C" fn mus_totals_total(room: &[u64], count: usize, summary: &[u64]) -> TotalsTotalResult
-    ensures { Sees totals_total_seen total_says (TotalPromise room.now count summary.now) result }
+    ensures { Sees totals_total_seen (TotalPromise room.now count summary.now) result }
 {
-    results::summary::of_total(totals::total(room, count, summary))
+    totals::total(room, count, summary).into()
 }
 
 // The line of the whole, unsplit ledger that holds a cent.
@@ -40,9 +40,9 @@ pub extern "C" fn mus_totals_find(
     summary: &[u64],
     cent: u64,
 ) -> TotalsFindResult
-    ensures { Sees totals_find_seen find_says (FindPromise room.now count summary.now cent) result }
+    ensures { Sees totals_find_seen (FindPromise room.now count summary.now cent) result }
 {
-    results::summary::of_find(totals::find(room, count, summary, Cent(cent)))
+    totals::find(room, count, summary, Cent(cent)).into()
 }
 
 // A new value for a line in use; the new grand total.
@@ -54,9 +54,9 @@ pub extern "C" fn mus_totals_change(
     line: usize,
     value: u64,
 ) -> TotalsChangeResult
-    ensures { Sees totals_change_seen total_says (λ a. ChangePromise room.old count summary.old line value a room.new summary.new) result }
+    ensures { Sees totals_change_seen (λ a. ChangePromise room.old count summary.old line value a room.new summary.new) result }
 {
-    results::summary::of_change(upkeep::change(room, count, summary, Item(line), value))
+    upkeep::change(room, count, summary, Item(line), value).into()
 }
 
 // One line more, after those in use; the new count.
@@ -67,15 +67,15 @@ pub extern "C" fn mus_totals_append(
     summary: &mut [u64],
     value: u64,
 ) -> TotalsAppendResult
-    ensures { Sees totals_append_seen count_says (λ a. AppendPromise room.old count summary.old value a room.new summary.new) result }
+    ensures { Sees totals_append_seen (λ a. AppendPromise room.old count summary.old value a room.new summary.new) result }
 {
-    results::summary::of_append(upkeep::append(room, count, summary, value))
+    upkeep::append(room, count, summary, value).into()
 }
 
 // Whether the summary agrees with its ledger, or the first wrong block.
 #[unsafe(no_mangle)]
 pub extern "C" fn mus_totals_check(room: &[u64], count: usize, summary: &[u64]) -> TotalsCheckResult
-    ensures { Sees totals_check_seen check_says (CheckPromise room.now count summary.now) result }
+    ensures { Sees totals_check_seen (CheckPromise room.now count summary.now) result }
 {
-    results::summary::of_check(totals::check(room, count, summary))
+    totals::check(room, count, summary).into()
 }

@@ -2,7 +2,7 @@
 ghost use Rattle.std.specs.Prelude.{◌≡◌};
 ghost use Rattle.season.specs.Tally.{no_tally};
 ghost use Rattle.season.specs.Add.{add_of, AddPromise};
-ghost use Rattle.results.specs.Seen.{Sees};
+ghost use Rattle.results.specs.Seen.{Shows};
 ghost use Rattle.results.specs.Season.{entry_from, tally_seen};
 
 use results::TallyResult;
@@ -25,7 +25,7 @@ pub extern "C" fn mus_tally_add(
     limit: u64,
     verdict: u64,
 ) -> TallyResult
-    ensures { Sees tally_seen (λ a. a) (AddPromise tally (add_of tally (entry_from level book limit verdict))) result }
+    ensures { Shows tally_seen (AddPromise tally (add_of tally (entry_from level book limit verdict))) result }
 {
-    results::tally::of_add(results::tally::add(tally, level, book, limit, verdict))
+    results::tally::add(tally, level, book, limit, verdict).into()
 }

@@ -1,12 +1,13 @@
 -- What `parse` promises, from its test of the rooms and its two passes. Assumes nothing.
 use mathlib.Core.Path.{◌≡◌, refl, sym, ap, ◌∙◌}
-use mathlib.Core.Bool.{Bool, true, false, not}
+use mathlib.Core.Bool.{Bool, true, false}
 use mathlib.Core.List.{List}
 use lib.IntN.{ℤ}
 use Prim.Native.Nat.{ℕ}
 use lib.Dec.{ltb}
 use lib.ListN.{length}
 use borrow.Author.Tests.{ltb-false, leb-true}
+use Rattle.std.specs.Prelude.{Result, Err}
 use Rattle.terms.specs.Numbers.{pick}
 use Rattle.terms.proofs.Tests.{by_test}
 use Rattle.workfile.specs.Content.{Content, most_words, most_file_lines}
@@ -15,14 +16,11 @@ use Rattle.workfile.specs.declared.Contents.{Contents}
 use Rattle.entry.specs.declared.Notation.{Notation}
 use Rattle.entry.specs.declared.Wrong.{Wrong}
 use Rattle.entry.specs.declared.Wrong.TheVariants.{NoRoom}
-use Rattle.entry.proofs.Runs.{turned, unturned}
 use Rattle.records.proofs.Judging.{clash}
 use Rattle.notation.specs.Contents.{Reading, says, faulty, text_of}
-use Rattle.notation.specs.Parse.{parse_says, reading_counts, left_over, room_for, parse_of, ParsePromise}
+use Rattle.notation.specs.Parse.{reading_counts, left_over, room_for, parse_of, ParsePromise}
 use Rattle.notation.specs.Steps.{OnePass}
 use Rattle.notation.specs.declared.Fault.{Fault}
-use Rattle.notation.specs.declared.ParseAnswer.{ParseAnswer}
-use Rattle.notation.specs.declared.ParseAnswer.TheVariants.{Parsed, Faulty}
 
 pub has_rooms : (w v : List ℕ) (e : List ℤ) → room_for (length w) (length v) (length e) ≡ true → Rooms w v e
 unfolding room_for
@@ -47,12 +45,12 @@ was_faulty (faulty other place) {wrong} {line} e =
     λ i. faulty (w i) (l i)
 
 -- the test of the rooms
-pub rooms : {w v : List ℕ} {e : List ℤ} {enough : Bool} → enough ≡ room_for (length w) (length v) (length e) → not enough ≡ false → Rooms w v e
-rooms {w} {v} {e} {enough} test room = has_rooms w v e (sym test ∙ unturned enough room)
+pub rooms : {w v : List ℕ} {e : List ℤ} {enough : Bool} → enough ≡ room_for (length w) (length v) (length e) → enough ≡ true → Rooms w v e
+rooms {w} {v} {e} {enough} test room = has_rooms w v e (sym test ∙ room)
 
 module _ (by : Notation) (text w v : List ℕ) (e : List ℤ) {enough : Bool} (test : enough ≡ room_for (length w) (length v) (length e)) where
   -- a fault leaves the buffers
-  left_alone : {wrong : Wrong} {line : ℕ} → parse_of by text (length w) (length v) (length e) ≡ faulty wrong line → ParsePromise by text w v e (Faulty (record { line = line; wrong = wrong })) w v e
+  left_alone : {wrong : Wrong} {line : ℕ} → parse_of by text (length w) (length v) (length e) ≡ faulty wrong line → ParsePromise by text w v e (Err (record { line = line; wrong = wrong })) w v e
   left_alone q =
       record {
         answer = sym (ap reading_counts q);
@@ -65,25 +63,25 @@ module _ (by : Notation) (text w v : List ℕ) (e : List ℤ) {enough : Bool} (t
   unfolding parse_of
   decided b q = ap (λ (b : Bool). pick b (text_of by text) (faulty NoRoom 0)) (sym test ∙ q)
 
-  pub no_room : not enough ≡ true → ParsePromise by text w v e (Faulty (record { line = 0; wrong = NoRoom })) w v e
-  no_room q = left_alone (decided false (turned enough q))
+  pub no_room : enough ≡ false → ParsePromise by text w v e (Err (record { line = 0; wrong = NoRoom })) w v e
+  no_room q = left_alone (decided false q)
 
-  module _ (room : not enough ≡ false) where
+  module _ (room : enough ≡ true) where
     roomed : parse_of by text (length w) (length v) (length e) ≡ text_of by text
-    roomed = decided true (unturned enough room)
+    roomed = decided true room
 
-    module _ {r : ParseAnswer} (first : parse_says r ≡ reading_counts (text_of by text)) where
-      pub found_faulty : {fault : Fault} → r ≡ Faulty fault → ParsePromise by text w v e (Faulty fault) w v e
-      found_faulty {fault} q = left_alone (roomed ∙ was_faulty (text_of by text) (sym first ∙ ap parse_says q))
+    pub found_faulty : {fault : Fault} → faulty fault.wrong fault.line ≡ reading_counts (text_of by text) → ParsePromise by text w v e (Err fault) w v e
+    found_faulty {fault} first = left_alone (roomed ∙ was_faulty (text_of by text) (sym first))
 
-      pub found_whole : {contents : Contents} → r ≡ Parsed contents → {w' v' : List ℕ} {e' : List ℤ} {r' : ParseAnswer} → OnePass by text w v e r' w' v' e' → ParsePromise by text w v e r' w' v' e'
-      found_whole q second =
-          let said = was_said (text_of by text) (sym first ∙ ap parse_says q) in
-          let kept = second.kept said.0 said.1 in
-          let same = sym said.1 ∙ sym roomed in
-          record {
-            answer = second.answer ∙ ap reading_counts (sym roomed);
-            words_left = kept.0 ∙ ap (left_over (λ c. c.words) w) same;
-            values_left = kept.1 ∙ ap (left_over (λ c. c.values) v) same;
-            errors_left = kept.2 ∙ ap (left_over (λ c. c.errors) e) same;
-          }
+    pub found_whole : {contents : Contents} → says contents ≡ reading_counts (text_of by text) → {w' v' : List ℕ} {e' : List ℤ} {r : Result Contents Fault} → OnePass by text w v e r w' v' e'
+        → ParsePromise by text w v e r w' v' e'
+    found_whole first second =
+        let said = was_said (text_of by text) (sym first) in
+        let kept = second.kept said.0 said.1 in
+        let same = sym said.1 ∙ sym roomed in
+        record {
+          answer = second.answer ∙ ap reading_counts (sym roomed);
+          words_left = kept.0 ∙ ap (left_over (λ c. c.words) w) same;
+          values_left = kept.1 ∙ ap (left_over (λ c. c.values) v) same;
+          errors_left = kept.2 ∙ ap (left_over (λ c. c.errors) e) same;
+        }

@@ -19,25 +19,22 @@ use Rattle.entry.specs.declared.Notation.{Notation}
 use Rattle.entry.specs.declared.Wrong.{Wrong}
 use Rattle.entry.specs.declared.Record.{Record}
 use Rattle.entry.specs.declared.Record.TheVariants as line
+use Rattle.std.specs.Prelude.{Result, Ok, Err}
+use Rattle.workfile.specs.declared.Contents.{Contents}
 use Rattle.records.specs.Judging.{tallied}
 use Rattle.records.proofs.Judging.{clash}
-use Rattle.notation.specs.Contents.{with_plan, grown, empty_content, state_of}
-use Rattle.notation.specs.Parse.{parse_says, reading_counts}
+use Rattle.notation.specs.declared.Fault.{Fault}
+use Rattle.notation.specs.Contents.{reads, with_plan, grown, empty_content, state_of}
+use Rattle.notation.specs.Parse.{reading_counts}
 use Rattle.notation.specs.Steps.{turn_of, filed, HasPlaceOf, end_of, OnePass}
 use Rattle.notation.specs.declared.State.{State}
 use Rattle.notation.specs.declared.Turn.{Turn}
-use Rattle.notation.specs.declared.Turn.TheVariants.{On, Stop}
-use Rattle.notation.specs.declared.ParseAnswer.{ParseAnswer}
-use Rattle.notation.specs.declared.ParseAnswer.TheVariants.{Faulty}
 use Rattle.notation.proofs.Taking.{Took}
 use Rattle.notation.proofs.Passing.{Stands, starts, its_content, whole, finished, fault_here, taken_here, onward}
 
 -- storing the record of a line, if it has one
 pub in_place : {found : Record} {t : Tally} {w v : List ℕ} {e : List ℤ} → HasPlaceOf found t w v e → {r : FileRecord} → found ≡ line.Filed r → HasPlace t r w v e
 in_place has {r} is = has.place r is
-
-pub put_filed : {found : Record} {t : Tally} {w v w' v' : List ℕ} {e e' : List ℤ} {r : FileRecord} → found ≡ line.Filed r → Put t r w v e w' v' e' → Put t (filed found) w v e w' v' e'
-put_filed is put = rw is put
 
 tally_of_lem : {c : Content} {found : Record} {next : State} → Took c found next → tally_of (grown c found) ≡ next.tally
 tally_of_lem took = ap (λ (s : State). s.tally) took.state
@@ -97,32 +94,32 @@ module _ {by : Notation} {text : List ℕ} {at line : ℕ} {s : State} {ws vs w 
   errors_same e' h = h ∙ errors_long
 
   -- at a line
-  module _ (inside : at < length text) {r : Turn} (turn : r ≡ turn_of by text at s) where
-    pub stopped_filling : {wrong : Wrong} → r ≡ Stop wrong → OnePass by text ws vs es (Faulty (record { line = line; wrong = wrong })) w v e
+  module _ (inside : at < length text) {r : Result Turn Wrong} (read : r ≡ turn_of by text at s) where
+    pub stopped_filling : {wrong : Wrong} → r ≡ Err wrong → OnePass by text ws vs es (Err (record { line = line; wrong = wrong })) w v e
     stopped_filling e =
-        let bad = fault_here fill.stands inside turn e in
+        let bad = fault_here fill.stands inside read e in
         record { answer = sym (ap reading_counts bad); kept = λ c f. clash (cc) }
 
-    module _ {found : Record} {next : State} {to : ℕ} (on : r ≡ On found next to) where
-      pub line_place : HasPlaceOf found s.tally w v e
+    module _ {turn : Turn} (on : r ≡ Ok turn) where
+      pub line_place : HasPlaceOf turn.found s.tally w v e
       line_place =
-          let took = taken_here fill.stands inside turn on in
+          let took = taken_here fill.stands inside read on in
           record { place = λ r is. has_place fill.held fill.rooms (subst (λ (t : Tally). Rule t r) fill.held.tally (took.rule_kept r is)) }
 
-      pub fills : {w' v' : List ℕ} {e' : List ℤ} → Put s.tally (filed found) w v e w' v' e' → Filling by text to (line + 1) next ws vs es w' v' e'
+      pub fills : {w' v' : List ℕ} {e' : List ℤ} → Put s.tally (filed turn.found) w v e w' v' e' → Filling by text turn.next (line + 1) turn.state ws vs es w' v' e'
       unfolding onward
       fills put =
           record {
-            stands = onward fill.stands inside turn on;
+            stands = onward fill.stands inside read on;
             rooms = fill.rooms;
-            held = held_line fill.held found next (taken_here fill.stands inside turn on) fill.rooms put;
+            held = held_line fill.held turn.found turn.state (taken_here fill.stands inside read on) fill.rooms put;
           }
 
   -- the end, which is the Z of the counts
   pub end_place : HasPlace s.tally (End s.tally.lines s.tally.sum) w v e
   end_place = has_place fill.held fill.rooms (refl, refl)
 
-  pub filled : length text ≤ at → {r : ParseAnswer} {w' v' : List ℕ} {e' : List ℤ} → Put s.tally (End s.tally.lines s.tally.sum) w v e w' v' e' → parse_says r ≡ end_of s line
+  pub filled : length text ≤ at → {r : Result Contents Fault} {w' v' : List ℕ} {e' : List ℤ} → Put s.tally (End s.tally.lines s.tally.sum) w v e w' v' e' → reads r ≡ end_of s line
       → OnePass by text ws vs es r w' v' e'
   filled h {r} {w'} {v'} {e'} put a =
       let c = fill.stands.read in

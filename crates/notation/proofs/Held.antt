@@ -7,15 +7,14 @@ use borrow.Author.Tests.{le-ltb, le-leb}
 use lib.IntN.{ℤ}
 use lib.ListN.{length, take, drop, length-append}
 use lib.Seq.{length-take-le}
+use Rattle.std.specs.Prelude.{Ok, Err}
 use Rattle.workfile.specs.Content.{Content, most_file_lines}
 use Rattle.workfile.specs.Promises.{Rooms, over, counted}
 use Rattle.workfile.specs.declared.Contents.{Contents}
 use Rattle.entry.specs.declared.Notation.{Notation}
 use Rattle.notation.specs.Contents.{Reading, says, faulty, text_of}
-use Rattle.notation.specs.Parse.{parse_says, reading_counts, left_over, room_for, parse_of, ParsePromise}
+use Rattle.notation.specs.Parse.{reading_counts, left_over, room_for, parse_of, ParsePromise}
 use Rattle.notation.specs.declared.Fault.{Fault}
-use Rattle.notation.specs.declared.ParseAnswer.{ParseAnswer}
-use Rattle.notation.specs.declared.ParseAnswer.TheVariants.{Parsed, Faulty}
 use Rattle.notation.proofs.Answers.{was_said, was_faulty}
 use Rattle.notation.proofs.Laws.{text_counts}
 
@@ -43,26 +42,24 @@ pub part_long : {A : Type 0} (n : ℕ) (l : List A) → n ≤ length l → n ≡
 part_long n l h = sym (length-take-le n l h)
 
 -- the fault of a text that has one
-pub fault_told : {by : Notation} {text w v w' v' : List ℕ} {e e' : List ℤ} {r : ParseAnswer} → Rooms w v e → ParsePromise by text w v e r w' v' e' → {fault : Fault} → r ≡ Faulty fault →
+pub fault_told : {by : Notation} {text w v w' v' : List ℕ} {e e' : List ℤ} → Rooms w v e → {fault : Fault} → ParsePromise by text w v e (Err fault) w' v' e' →
     text_of by text ≡ faulty fault.wrong fault.line
-fault_told {by} {text} {w} {v} {w'} {v'} {e} rooms p q = was_faulty (text_of by text) (ap reading_counts (sym (roomy by text w v e rooms)) ∙ sym p.answer ∙ ap parse_says q)
+fault_told {by} {text} {w} {v} {w'} {v'} {e} rooms p = was_faulty (text_of by text) (ap reading_counts (sym (roomy by text w v e rooms)) ∙ sym p.answer)
 
--- where a text was read: the buffers before, and the answer
+-- where a text was read: the buffers before
 pub record AtParsed (by : Notation) (text : List ℕ) (k : Contents) (words' values' : List ℕ) (errors' : List ℤ) : Type 0 where
   pub words : List ℕ
   pub values : List ℕ
   pub errors : List ℤ
-  pub answer : ParseAnswer
   pub rooms : Rooms words values errors
-  pub promise : ParsePromise by text words values errors answer words' values' errors'
-  pub told : answer ≡ Parsed k
+  pub promise : ParsePromise by text words values errors (Ok k) words' values' errors'
 
 module _ {by : Notation} {text : List ℕ} {k : Contents} {w v : List ℕ} {e : List ℤ} (at : AtParsed by text k w v e) where
   abbrev reading : Reading Content
   reading = parse_of by text (length at.words) (length at.values) (length at.errors)
 
   abbrev said : (c : Content) × (reading ≡ says c) × (counted c ≡ k)
-  said = was_said reading (sym at.promise.answer ∙ ap parse_says at.told)
+  said = was_said reading (sym at.promise.answer)
 
   abbrev pub content : Content
   content = said.0

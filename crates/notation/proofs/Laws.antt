@@ -6,6 +6,7 @@ use lib.IntN.{ℤ}
 use Prim.Native.Nat.{ℕ, suc, ◌+◌, ◌≤◌}
 use native.Mathlib.Omega.{arith}
 use lib.ListN.{length, length-append}
+use Rattle.std.specs.Prelude.{Result, Ok, Err}
 use Rattle.terms.specs.Numbers.{sum}
 use Rattle.terms.specs.Outcome.{accepted}
 use Rattle.workfile.specs.Content.{Content, closing, encode, longest_file}
@@ -23,12 +24,11 @@ use Rattle.entry.specs.declared.Notation.{Notation}
 use Rattle.entry.specs.declared.Record.{Record}
 use Rattle.entry.specs.declared.Record.TheVariants as line
 use Rattle.records.proofs.Judging.{clash}
-use Rattle.notation.specs.Contents.{says, taken_of, grown, empty_content, state_of, go_on, read_lines, text_of}
-use Rattle.notation.specs.Parse.{parse_says, ParsePromise}
-use Rattle.notation.specs.declared.Taken.{Taken}
-use Rattle.notation.specs.declared.Taken.TheVariants.{With, Not}
-use Rattle.notation.specs.declared.ParseAnswer.{ParseAnswer}
-use Rattle.notation.specs.declared.ParseAnswer.TheVariants.{Parsed, Faulty}
+use Rattle.notation.specs.declared.{Fault.Fault, State.State}
+use Rattle.entry.specs.declared.Wrong.{Wrong}
+use Rattle.workfile.specs.declared.Contents.{Contents}
+use Rattle.notation.specs.Contents.{Reading, says, reads, taken_of, grown, empty_content, state_of, go_on, read_lines, text_of}
+use Rattle.notation.specs.Parse.{ParsePromise}
 use Rattle.notation.proofs.Taking.{took}
 use Rattle.notation.proofs.Passing.{ending, its_content}
 
@@ -46,10 +46,10 @@ lines_count by [] line planned c d so e = subst Counts (its_content planned c li
 lines_count by (bytes ∷ later) line planned c d so e =
     go (taken_of (state_of planned c) (record_in by bytes)) refl e (λ p. lines_count by later (suc line) p (grown c (record_in by bytes)) d)
   where
-    go : (t : Taken) → taken_of (state_of planned c) (record_in by bytes) ≡ t → go_on t line (λ p. read_lines by (suc line) p (grown c (record_in by bytes)) later) ≡ says d
+    go : (t : Result State Wrong) → taken_of (state_of planned c) (record_in by bytes) ≡ t → go_on t line (λ p. read_lines by (suc line) p (grown c (record_in by bytes)) later) ≡ says d
         → ((p : Bool) → SoFar (grown c (record_in by bytes)) → read_lines by (suc line) p (grown c (record_in by bytes)) later ≡ says d → Counts d) → Counts d
-    go (With next) q f again = again next.planned (took planned c (record_in by bytes) next so q).so_far f
-    go (Not wrong) q f again = clash (cc)
+    go (Ok next) q f again = again next.planned (took planned c (record_in by bytes) next so q).so_far f
+    go (Err wrong) q f again = clash (cc)
 
 pub text_counts : (by : Notation) (text : List ℕ) (c : Content) → text_of by text ≡ says c → Counts c
 unfolding text_of
@@ -99,35 +99,35 @@ lines_valued by [] line planned c d e =
 lines_valued by (bytes ∷ later) line planned c d e =
     go (taken_of (state_of planned c) (record_in by bytes)) e (λ p. lines_valued by later (suc line) p (grown c (record_in by bytes)) d)
   where
-    go : (t : Taken) → go_on t line (λ p. read_lines by (suc line) p (grown c (record_in by bytes)) later) ≡ says d
+    go : (t : Result State Wrong) → go_on t line (λ p. read_lines by (suc line) p (grown c (record_in by bytes)) later) ≡ says d
         → ((p : Bool) → read_lines by (suc line) p (grown c (record_in by bytes)) later ≡ says d → length d.values ≡ length (grown c (record_in by bytes)).values + lines_told by later)
         → length d.values ≡ length c.values + (line_in (record_in by bytes) + lines_told by later)
-    go (With next) f again = omega (arith, again next.planned f, line_grown c (record_in by bytes))
-    go (Not wrong) f again = clash (cc)
+    go (Ok next) f again = omega (arith, again next.planned f, line_grown c (record_in by bytes))
+    go (Err wrong) f again = clash (cc)
 
 -- a text's content has as many book values as the text has lines of L
 pub lines_counted : (by : Notation) (text : List ℕ) (c : Content) → text_of by text ≡ says c → length c.values ≡ lines_told by (text_lines text)
 unfolding text_of
 lines_counted by text c e = omega (arith, lines_valued by (text_lines text) 1 false empty_content c e)
 
--- two answers that say the same are the same
-pub said_once : (r s : ParseAnswer) → parse_says r ≡ parse_says s → r ≡ s
-said_once (Parsed a) (Parsed b) e = let q : a ≡ b = cc in ap Parsed q
-said_once (Parsed a) (Faulty g) e = clash (cc)
-said_once (Faulty f) (Parsed b) e = clash (cc)
-said_once (Faulty f) (Faulty g) e =
+-- two answers to a text that say the same are the same
+pub said_once : {A : Type 0} (r s : Result A Fault) → reads r ≡ reads s → r ≡ s
+said_once {A} (Ok a) (Ok b) e = let same : ◌≡◌ {A = Reading A} (says a) (says b) = e in let q : a ≡ b = cc in ap Ok q
+said_once (Ok a) (Err g) e = clash (cc)
+said_once (Err f) (Ok b) e = clash (cc)
+said_once (Err f) (Err g) e =
     let l : f.line ≡ g.line = cc in
     let w : f.wrong ≡ g.wrong = cc in
-    λ i. Faulty (record { line = l i; wrong = w i })
+    λ i. Err (record { line = l i; wrong = w i })
 
 -- any two results that keep the promise agree
-pub record Agree (r s : ParseAnswer) (w v : List ℕ) (e : List ℤ) (w' v' : List ℕ) (e' : List ℤ) : Type 0 where
+pub record Agree (r s : Result Contents Fault) (w v : List ℕ) (e : List ℤ) (w' v' : List ℕ) (e' : List ℤ) : Type 0 where
   pub answers : r ≡ s
   pub words : w ≡ w'
   pub values : v ≡ v'
   pub errors : e ≡ e'
 
-pub parsed_once : {by : Notation} {text w v w₁ v₁ w₂ v₂ : List ℕ} {e e₁ e₂ : List ℤ} {r s : ParseAnswer} → ParsePromise by text w v e r w₁ v₁ e₁ → ParsePromise by text w v e s w₂ v₂ e₂
+pub parsed_once : {by : Notation} {text w v w₁ v₁ w₂ v₂ : List ℕ} {e e₁ e₂ : List ℤ} {r s : Result Contents Fault} → ParsePromise by text w v e r w₁ v₁ e₁ → ParsePromise by text w v e s w₂ v₂ e₂
     → Agree r s w₁ v₁ e₁ w₂ v₂ e₂
 parsed_once {r = r} {s = s} p q =
     record {

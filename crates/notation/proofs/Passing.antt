@@ -1,72 +1,57 @@
 -- A pass over a text, line by line: what is known before each line, at a fault, and at the end. Assumes nothing.
 use mathlib.Core.Path.{◌≡◌, refl, sym, ap, ◌∙◌}
-use mathlib.Core.Bool.{Bool, true, false, not}
+use mathlib.Core.Bool.{Bool, true, false}
 use mathlib.Core.List.{List}
 use Prim.Native.Nat.{ℕ, suc, ◌+◌, ◌-◌, ◌≤◌, ◌<◌}
 use native.Mathlib.Numerals.{add-one}
 use native.Mathlib.Omega.{arith}
 use lib.ListN.{length, drop}
+use Rattle.std.specs.Prelude.{Result, Ok, Err}
 use Rattle.terms.specs.Numbers.{pick}
 use Rattle.workfile.specs.Content.{Content, closing}
 use Rattle.workfile.specs.Decode.{grow}
 use Rattle.workfile.specs.Promises.{plan_with}
+use Rattle.workfile.specs.declared.Contents.{Contents}
 use Rattle.workfile.proofs.Growing.{SoFar, at_first}
 use Rattle.entry.specs.Text.{text_lines}
-use Rattle.entry.specs.Steps.{line_after, record_at_line, line_at}
+use Rattle.entry.specs.Steps.{line_after, record_at_line}
 use Rattle.entry.specs.declared.Notation.{Notation}
 use Rattle.entry.specs.declared.Wrong.{Wrong}
 use Rattle.entry.specs.declared.Wrong.TheVariants.{NoPlan}
-use Rattle.entry.specs.declared.Record.{Record}
-use Rattle.entry.specs.declared.TextLine.{TextLine}
-use Rattle.entry.proofs.Runs.{turned as turned-off, unturned}
 use Rattle.entry.proofs.TextLines.{lines_at, line_later, no_lines}
 use Rattle.records.proofs.Judging.{clash}
-use Rattle.notation.specs.Contents.{Reading, says, faulty, taken_of, grown, empty_content, state_of, go_on, read_lines, text_of}
-use Rattle.notation.specs.Parse.{parse_says, reading_counts}
-use Rattle.notation.specs.Steps.{turn_with, turn_of, contents_of, end_of}
+use Rattle.notation.specs.Contents.{Reading, says, faulty, reads, taken_of, grown, empty_content, state_of, go_on, read_lines, text_of}
+use Rattle.notation.specs.Parse.{reading_counts}
+use Rattle.notation.specs.Steps.{turn_with, turn_of, end_of}
 use Rattle.notation.specs.declared.State.{State}
-use Rattle.notation.specs.declared.Taken.{Taken}
-use Rattle.notation.specs.declared.Taken.TheVariants.{With, Not}
+use Rattle.notation.specs.declared.Fault.{Fault}
 use Rattle.notation.specs.declared.Turn.{Turn}
-use Rattle.notation.specs.declared.Turn.TheVariants.{On, Stop}
-use Rattle.notation.specs.declared.ParseAnswer.{ParseAnswer}
 use Rattle.notation.proofs.Taking.{Took, took}
 
--- the line at a place, as the code reads it
-module _ (by : Notation) (text : List ℕ) (at : ℕ) {l : TextLine} (its : l ≡ line_at by text at) (s : State) {t : Taken} (judgement : t ≡ taken_of s l.found) where
-  judged_there : t ≡ taken_of s (record_at_line by text at)
-  judged_there = judgement ∙ ap (λ (m : TextLine). taken_of s m.found) its
-
-  pub stops : {wrong : Wrong} → t ≡ Not wrong → Stop wrong ≡ turn_of by text at s
-  unfolding turn_of
-  stops e = ap (turn_with (record_at_line by text at) (line_after text at)) (sym e ∙ judged_there)
-
-  pub goes : {next : State} → t ≡ With next → On l.found next l.next ≡ turn_of by text at s
-  unfolding turn_of
-  goes {next} e = ap (λ (m : TextLine). On m.found next m.next) its ∙ ap (turn_with (record_at_line by text at) (line_after text at)) (sym e ∙ judged_there)
-
 -- a line that is taken is the one at the place, and the next begins after it
-pub record Went (by : Notation) (text : List ℕ) (at : ℕ) (s : State) (found : Record) (next : State) (to : ℕ) : Type 0 where
-  pub its : found ≡ record_at_line by text at
-  pub judgement : taken_of s (record_at_line by text at) ≡ With next
-  pub place : to ≡ line_after text at
+pub record Went (by : Notation) (text : List ℕ) (at : ℕ) (s : State) (turn : Turn) : Type 0 where
+  pub its : turn.found ≡ record_at_line by text at
+  pub judgement : taken_of s (record_at_line by text at) ≡ Ok turn.state
+  pub place : turn.next ≡ line_after text at
 
 module _ (by : Notation) (text : List ℕ) (at : ℕ) (s : State) where
-  went : {found : Record} {next : State} {to : ℕ} → turn_of by text at s ≡ On found next to → Went by text at s found next to
+  went : {turn : Turn} → turn_of by text at s ≡ Ok turn → Went by text at s turn
   unfolding turn_of
-  went {found} {next} {to} = go (taken_of s (record_at_line by text at)) refl
+  went {turn} = go (taken_of s (record_at_line by text at)) refl
     where
-      go : (t : Taken) → taken_of s (record_at_line by text at) ≡ t → turn_with (record_at_line by text at) (line_after text at) t ≡ On found next to → Went by text at s found next to
-      go (With u) q e = let same : u ≡ next = cc in record { its = cc; judgement = q ∙ ap With same; place = cc }
-      go (Not wrong) q e = clash (cc)
+      go : (t : Result State Wrong) → taken_of s (record_at_line by text at) ≡ t → turn_with (record_at_line by text at) (line_after text at) t ≡ Ok turn → Went by text at s turn
+      go (Ok u) q e =
+          let same : record { found = record_at_line by text at; state = u; next = line_after text at } ≡ turn = cc in
+          record { its = sym (ap (λ (t : Turn). t.found) same); judgement = q ∙ ap Ok (ap (λ (t : Turn). t.state) same); place = sym (ap (λ (t : Turn). t.next) same) }
+      go (Err wrong) q e = clash (cc)
 
-  stopped : {wrong : Wrong} → turn_of by text at s ≡ Stop wrong → taken_of s (record_at_line by text at) ≡ Not wrong
+  stopped : {wrong : Wrong} → turn_of by text at s ≡ Err wrong → taken_of s (record_at_line by text at) ≡ Err wrong
   unfolding turn_of
   stopped {wrong} = go (taken_of s (record_at_line by text at)) refl
     where
-      go : (t : Taken) → taken_of s (record_at_line by text at) ≡ t → turn_with (record_at_line by text at) (line_after text at) t ≡ Stop wrong → taken_of s (record_at_line by text at) ≡ Not wrong
-      go (With u) q e = clash (cc)
-      go (Not other) q e = let same : other ≡ wrong = cc in q ∙ ap Not same
+      go : (t : Result State Wrong) → taken_of s (record_at_line by text at) ≡ t → turn_with (record_at_line by text at) (line_after text at) t ≡ Err wrong → taken_of s (record_at_line by text at) ≡ Err wrong
+      go (Ok u) q e = clash (cc)
+      go (Err other) q e = let same : other ≡ wrong = cc in q ∙ ap Err same
 
 -- before a line: the content of those before it, from which the lines that follow give what the whole text does
 pub record Stands (by : Notation) (text : List ℕ) (at line : ℕ) (s : State) : Type 0 where
@@ -89,16 +74,6 @@ starts {by} {text} {s} e =
       passed = omega arith;
     }
 
--- the answer at the end, by its test
-module _ (s : State) (line : ℕ) where
-  pub ends_faulty : not s.planned ≡ true → faulty NoPlan line ≡ end_of s line
-  unfolding end_of
-  ends_faulty e = ap (λ (b : Bool). pick b (says (contents_of s)) (faulty NoPlan line)) (sym (turned-off s.planned e))
-
-  pub ends_well : not s.planned ≡ false → says (contents_of s) ≡ end_of s line
-  unfolding end_of
-  ends_well e = ap (λ (b : Bool). pick b (says (contents_of s)) (faulty NoPlan line)) (sym (unturned s.planned e))
-
 -- at the end of the text
 unfoldable pub ending : Bool → Content → ℕ → Reading Content
 ending planned c line = pick planned (says (grow c (closing c))) (faulty NoPlan line)
@@ -118,47 +93,47 @@ module _ {by : Notation} {text : List ℕ} {at line : ℕ} {s : State} (st : Sta
   unfolding ending read_lines
   whole h = sym st.same ∙ ap (read_lines by line s.planned st.read) (no_lines text h)
 
-  pub finished : length text ≤ at → (r : ParseAnswer) → parse_says r ≡ end_of s line → parse_says r ≡ reading_counts (text_of by text)
+  pub finished : length text ≤ at → (r : Result Contents Fault) → reads r ≡ end_of s line → reads r ≡ reading_counts (text_of by text)
   finished h r e = e ∙ ap (λ (u : State). end_of u line) (sym st.state) ∙ ended_as s.planned st.read line ∙ ap reading_counts (sym (whole h))
 
   -- at a line
-  module _ (inside : at < length text) {r : Turn} (turn : r ≡ turn_of by text at s) where
+  module _ (inside : at < length text) {r : Result Turn Wrong} (read : r ≡ turn_of by text at s) where
     here : text_of by text ≡ go_on (taken_of s (record_at_line by text at)) line (λ planned. read_lines by (suc line) planned (grown st.read (record_at_line by text at)) (text_lines (drop (line_after text at) text)))
     unfolding read_lines
     here =
         sym st.same ∙ ap (read_lines by line s.planned st.read) (lines_at text inside)
         ∙ ap (λ (u : State). go_on (taken_of u (record_at_line by text at)) line (λ planned. read_lines by (suc line) planned (grown st.read (record_at_line by text at)) (text_lines (drop (line_after text at) text)))) st.state
 
-    pub on_with : (t : Taken) → taken_of s (record_at_line by text at) ≡ t
+    pub on_with : (t : Result State Wrong) → taken_of s (record_at_line by text at) ≡ t
         → text_of by text ≡ go_on t line (λ planned. read_lines by (suc line) planned (grown st.read (record_at_line by text at)) (text_lines (drop (line_after text at) text)))
     on_with t e =
-        here ∙ ap (λ (t : Taken). go_on t line (λ planned. read_lines by (suc line) planned (grown st.read (record_at_line by text at)) (text_lines (drop (line_after text at) text)))) e
+        here ∙ ap (λ (t : Result State Wrong). go_on t line (λ planned. read_lines by (suc line) planned (grown st.read (record_at_line by text at)) (text_lines (drop (line_after text at) text)))) e
 
-    pub fault_here : {wrong : Wrong} → r ≡ Stop wrong → text_of by text ≡ faulty wrong line
-    fault_here {wrong} e = on_with (Not wrong) (stopped by text at s (sym turn ∙ e))
+    pub fault_here : {wrong : Wrong} → r ≡ Err wrong → text_of by text ≡ faulty wrong line
+    fault_here {wrong} e = on_with (Err wrong) (stopped by text at s (sym read ∙ e))
 
-    pub found_fault : {wrong : Wrong} → r ≡ Stop wrong → faulty wrong line ≡ reading_counts (text_of by text)
+    pub found_fault : {wrong : Wrong} → r ≡ Err wrong → faulty wrong line ≡ reading_counts (text_of by text)
     found_fault e = sym (ap reading_counts (fault_here e))
 
-    module _ {found : Record} {next : State} {to : ℕ} (e : r ≡ On found next to) where
-      pub step : Went by text at s found next to
-      step = went by text at s (sym turn ∙ e)
+    module _ {turn : Turn} (e : r ≡ Ok turn) where
+      pub step : Went by text at s turn
+      step = went by text at s (sym read ∙ e)
 
-      pub taken_here : Took st.read found next
+      pub taken_here : Took st.read turn.found turn.state
       taken_here =
-          let judgement = ap (λ (u : State). taken_of u found) st.state ∙ ap (taken_of s) step.its ∙ step.judgement in
-          took s.planned st.read found next st.so_far judgement
+          let judgement = ap (λ (u : State). taken_of u turn.found) st.state ∙ ap (taken_of s) step.its ∙ step.judgement in
+          took s.planned st.read turn.found turn.state st.so_far judgement
 
-      pub less : length text - to < length text - at
+      pub less : length text - turn.next < length text - at
       less = omega (arith, step.place, line_later text inside)
 
-      unfoldable pub onward : Stands by text to (line + 1) next
+      unfoldable pub onward : Stands by text turn.next (line + 1) turn.state
       onward =
           record {
-            read = grown st.read found;
+            read = grown st.read turn.found;
             state = taken_here.state;
             so_far = taken_here.so_far;
-            same = (λ i. read_lines by (add-one line i) next.planned (grown st.read (step.its i)) (text_lines (drop (step.place i) text))) ∙ sym (on_with (With next) step.judgement);
+            same = (λ i. read_lines by (add-one line i) turn.state.planned (grown st.read (step.its i)) (text_lines (drop (step.place i) text))) ∙ sym (on_with (Ok turn.state) step.judgement);
             within = omega (arith, step.place, line_later text inside);
             passed = omega (arith, step.place, line_later text inside, st.passed);
           }

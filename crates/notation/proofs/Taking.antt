@@ -1,18 +1,15 @@
 -- A line taken or not, as the code tests it, and what is known of the content that a taken line gives. Assumes nothing.
 use mathlib.Core.Path.{◌≡◌, refl, sym, ap, subst, ◌∙◌}
-use mathlib.Core.Bool.{Bool, true, false, not}
-use Prim.Native.Nat.{ℕ, ◌≤◌, ◌<◌}
+use mathlib.Core.Bool.{Bool, true}
+use Prim.Native.Nat.{ℕ}
 use lib.Dec.{ltb}
-use borrow.Author.Tests.{lt-ltb, le-ltb}
-use Rattle.terms.specs.Numbers.{pick}
+use Rattle.std.specs.Prelude.{Result, Ok}
 use Rattle.terms.proofs.Tests.{by_test}
 use Rattle.workfile.specs.Content.{Content}
 use Rattle.workfile.specs.Decode.{tally_of, grow}
 use Rattle.workfile.specs.Rules.{Rule}
 use Rattle.workfile.specs.Promises.{plan_with}
-use Rattle.workfile.specs.declared.Tally.{Tally}
 use Rattle.workfile.specs.declared.FileRecord.{FileRecord}
-use Rattle.workfile.specs.declared.FileRecord.TheVariants.{End, Nothing}
 use Rattle.workfile.proofs.Rules.{rule}
 use Rattle.workfile.proofs.Growing.{SoFar, one_more, plan_grow}
 use Rattle.records.specs.Judging.{judged}
@@ -21,93 +18,10 @@ use Rattle.records.specs.declared.Judged.TheVariants.{Next, Last, Bad}
 use Rattle.records.proofs.Judging.{clash, went}
 use Rattle.records.proofs.Counting.{tally_grow}
 use Rattle.entry.specs.declared.Wrong.{Wrong}
-use Rattle.entry.specs.declared.Wrong.TheVariants.{UnknownKind, NoPlan, SecondPlan, LevelTooLarge}
 use Rattle.entry.specs.declared.Record.{Record}
 use Rattle.entry.specs.declared.Record.TheVariants as line
-use Rattle.entry.proofs.Runs.{turned, unturned}
-use Rattle.notation.specs.Contents.{broken_rule, taken_plan, taken_stratum, ruled_by, taken_record, taken_of, with_plan, grown, state_of}
+use Rattle.notation.specs.Contents.{taken_plan, taken_stratum, ruled_by, taken_record, taken_of, with_plan, grown, state_of}
 use Rattle.notation.specs.declared.State.{State}
-use Rattle.notation.specs.declared.Taken.{Taken}
-use Rattle.notation.specs.declared.Taken.TheVariants.{With, Not}
-
--- the rule that bars a record, by its kind
-module _ (t : Tally) {found : FileRecord} where
-  pub by_kind : {kind : FileRecord} → found ≡ kind → {wrong : Wrong} → wrong ≡ broken_rule t kind → wrong ≡ broken_rule t found
-  by_kind is e = e ∙ sym (ap (broken_rule t) is)
-
-  pub no_end : {n s : ℕ} → found ≡ End n s → UnknownKind ≡ broken_rule t found
-  unfolding broken_rule
-  no_end is = sym (ap (broken_rule t) is)
-
-  pub no_record : found ≡ Nothing → UnknownKind ≡ broken_rule t found
-  unfolding broken_rule
-  no_record is = sym (ap (broken_rule t) is)
-
--- P, by its tests
-module _ (s : State) (level te ae : ℕ) where
-  pub second_plan : s.planned ≡ true → Not SecondPlan ≡ taken_plan s level te ae
-  unfolding taken_plan
-  second_plan p = rw p
-
-  pub large_level : s.planned ≡ false → 255 < level → Not LevelTooLarge ≡ taken_plan s level te ae
-  unfolding taken_plan
-  large_level p h = rw (p, lt-ltb 255 level h)
-
-  pub first_plan : s.planned ≡ false → level ≤ 255 → With (record { planned = true; plan = plan_with level te ae; tally = s.tally }) ≡ taken_plan s level te ae
-  unfolding taken_plan
-  first_plan p h = rw (p, le-ltb 255 level h)
-
--- S, by its test
-module _ (s : State) where
-  pub stratum_first : s.planned ≡ false → {t : Taken} → t ≡ Not NoPlan → t ≡ taken_stratum s
-  unfolding taken_stratum
-  stratum_first p e = rw p e
-
-  pub stratum_after : s.planned ≡ true → With s ≡ taken_stratum s
-  unfolding taken_stratum
-  stratum_after p = rw p
-
--- any other record, by its judgement
-module _ (s : State) (r : FileRecord) where
-  pub no_plan : not s.planned ≡ true → Not NoPlan ≡ taken_record s r
-  unfolding taken_record
-  no_plan p = rw (turned s.planned p)
-
-  module _ (p : not s.planned ≡ false) {j : Judged} (judgement : j ≡ judged s.tally r) where
-    ruled : ruled_by s r j ≡ taken_record s r
-    unfolding taken_record
-    ruled = ap (ruled_by s r) judgement ∙ ap (λ (b : Bool). pick b (ruled_by s r (judged s.tally r)) (Not NoPlan)) (sym (unturned s.planned p))
-
-    pub allowed : {t : Tally} {n : ℕ} → j ≡ Next t n → With (record { planned = true; plan = s.plan; tally = t }) ≡ taken_record s r
-    allowed e = sym (ap (ruled_by s r) e) ∙ ruled
-
-    pub barred_last : j ≡ Last → {wrong : Wrong} → wrong ≡ broken_rule s.tally r → Not wrong ≡ taken_record s r
-    barred_last e w = ap Not w ∙ sym (ap (ruled_by s r) e) ∙ ruled
-
-    pub barred : j ≡ Bad → {wrong : Wrong} → wrong ≡ broken_rule s.tally r → Not wrong ≡ taken_record s r
-    barred e w = ap Not w ∙ sym (ap (ruled_by s r) e) ∙ ruled
-
--- a line, by what it holds
-module _ (s : State) {found : Record} where
-  pub held_nothing : found ≡ line.Nothing → With s ≡ taken_of s found
-  unfolding taken_of
-  held_nothing is = sym (ap (taken_of s) is)
-
-  pub held_wrong : {wrong : Wrong} → found ≡ line.Unreadable wrong → Not wrong ≡ taken_of s found
-  unfolding taken_of
-  held_wrong is = sym (ap (taken_of s) is)
-
-  pub held_plan : {level te ae : ℕ} → found ≡ line.Plan level te ae → {t : Taken} → t ≡ taken_plan s level te ae → t ≡ taken_of s found
-  unfolding taken_of
-  held_plan is e = e ∙ sym (ap (taken_of s) is)
-
-  pub held_stratum : found ≡ line.Stratum → {t : Taken} → t ≡ taken_stratum s → t ≡ taken_of s found
-  unfolding taken_of
-  held_stratum is e = e ∙ sym (ap (taken_of s) is)
-
-  pub held_record : {r : FileRecord} → found ≡ line.Filed r → {t : Taken} → t ≡ taken_record s r → t ≡ taken_of s found
-  unfolding taken_of
-  held_record is e = e ∙ sym (ap (taken_of s) is)
 
 -- a line that is taken: the state is that of the content with it, which keeps what the rules keep
 pub record Took (c : Content) (found : Record) (next : State) : Type 0 where
@@ -119,7 +33,7 @@ as_state : (planned : Bool) (c : Content) {next : State} → state_of planned c 
 as_state planned c e = ap (λ (s : State). state_of s.planned c) (sym e) ∙ e
 
 -- P
-took_plan : (planned : Bool) (c : Content) (level te ae : ℕ) (next : State) → SoFar c → taken_plan (state_of planned c) level te ae ≡ With next
+took_plan : (planned : Bool) (c : Content) (level te ae : ℕ) (next : State) → SoFar c → taken_plan (state_of planned c) level te ae ≡ Ok next
     → Took c (line.Plan level te ae) next
 unfolding taken_plan grown
 took_plan planned c level te ae next so =
@@ -133,8 +47,8 @@ took_plan planned c level te ae next so =
       rule_kept = λ r f. clash (cc);
     }))
   where
-    Takes : Taken → Type 0
-    Takes t = t ≡ With next → Took c (line.Plan level te ae) next
+    Takes : Result State Wrong → Type 0
+    Takes t = t ≡ Ok next → Took c (line.Plan level te ae) next
 
 -- what leaves the content as it is
 took_none : (planned : Bool) (c : Content) (found : Record) (next : State) → SoFar c → grown c found ≡ c → ((r : FileRecord) → found ≡ line.Filed r → ⊥) → state_of planned c ≡ next → Took c found next
@@ -145,17 +59,17 @@ took_none planned c found next so same none e =
       rule_kept = λ r f. absurd (none r f);
     }
 
-took_stratum : (planned : Bool) (c : Content) (next : State) → SoFar c → taken_stratum (state_of planned c) ≡ With next → Took c line.Stratum next
+took_stratum : (planned : Bool) (c : Content) (next : State) → SoFar c → taken_stratum (state_of planned c) ≡ Ok next → Took c line.Stratum next
 unfolding taken_stratum grown
 took_stratum planned c next so =
-    by_test (λ (t : Taken). t ≡ With next → Took c line.Stratum next) planned (λ _ e. took_none planned c line.Stratum next so refl (λ r f. clash (cc)) (cc)) (λ _ e. clash (cc))
+    by_test (λ (t : Result State Wrong). t ≡ Ok next → Took c line.Stratum next) planned (λ _ e. took_none planned c line.Stratum next so refl (λ r f. clash (cc)) (cc)) (λ _ e. clash (cc))
 
 -- another record
-took_record : (planned : Bool) (c : Content) (r : FileRecord) (next : State) → SoFar c → taken_record (state_of planned c) r ≡ With next → Took c (line.Filed r) next
+took_record : (planned : Bool) (c : Content) (r : FileRecord) (next : State) → SoFar c → taken_record (state_of planned c) r ≡ Ok next → Took c (line.Filed r) next
 unfolding taken_record grown
-took_record planned c r next so = by_test (λ (t : Taken). t ≡ With next → Took c (line.Filed r) next) planned (λ _. go (judged (tally_of c) r) refl) (λ _ e. clash (cc))
+took_record planned c r next so = by_test (λ (t : Result State Wrong). t ≡ Ok next → Took c (line.Filed r) next) planned (λ _. go (judged (tally_of c) r) refl) (λ _ e. clash (cc))
   where
-    go : (j : Judged) → judged (tally_of c) r ≡ j → ruled_by (state_of planned c) r j ≡ With next → Took c (line.Filed r) next
+    go : (j : Judged) → judged (tally_of c) r ≡ j → ruled_by (state_of planned c) r j ≡ Ok next → Took c (line.Filed r) next
     go (Next t n) q e =
         let fact = went (tally_of c) r t n q in
         let law = rule (tally_of c) r fact.fit in
@@ -169,7 +83,7 @@ took_record planned c r next so = by_test (λ (t : Taken). t ≡ With next → T
     go Last q e = clash (cc)
     go Bad q e = clash (cc)
 
-pub took : (planned : Bool) (c : Content) (found : Record) (next : State) → SoFar c → taken_of (state_of planned c) found ≡ With next → Took c found next
+pub took : (planned : Bool) (c : Content) (found : Record) (next : State) → SoFar c → taken_of (state_of planned c) found ≡ Ok next → Took c found next
 unfolding taken_of grown
 took planned c line.Nothing next so e = took_none planned c line.Nothing next so refl (λ r f. clash (cc)) (cc)
 took planned c (line.Plan level te ae) next so e = took_plan planned c level te ae next so e

@@ -1,5 +1,5 @@
 -- What the parts of the code promise: a line at a place of the text, its record stored, and the pass that stores. Definitions: nothing is assumed.
-use Rattle.std.specs.Prelude.{ℕ, ◌≡◌, List, ℤ}
+use Rattle.std.specs.Prelude.{ℕ, ◌≡◌, List, ℤ, Result, Ok, Err}
 use Rattle.terms.specs.Numbers.{pick}
 use Rattle.workfile.specs.Content.{Content}
 use Rattle.workfile.specs.Promises.{over}
@@ -7,16 +7,16 @@ use Rattle.workfile.specs.declared.{Contents.Contents, Tally.Tally, FileRecord.F
 use Rattle.store.specs.Storing.{HasPlace}
 use Rattle.entry.specs.Steps.{line_after, record_at_line}
 use Rattle.entry.specs.declared.{Notation.Notation, Record.Record, Wrong.Wrong}
-use Rattle.notation.specs.Contents.{Reading, says, faulty, taken_of, text_of}
-use Rattle.notation.specs.Parse.{parse_says, reading_counts}
-use Rattle.notation.specs.declared.{State.State, Taken.Taken, Turn.Turn, ParseAnswer.ParseAnswer}
+use Rattle.notation.specs.Contents.{Reading, says, faulty, reads, taken_of, text_of}
+use Rattle.notation.specs.Parse.{reading_counts}
+use Rattle.notation.specs.declared.{State.State, Turn.Turn, Fault.Fault}
 
 -- the line that begins at a place
-abbrev pub turn_with : Record → ℕ → Taken → Turn
-turn_with found to (Taken.With s) = Turn.On found s to
-turn_with found to (Taken.Not wrong) = Turn.Stop wrong
+abbrev pub turn_with : Record → ℕ → Result State Wrong → Result Turn Wrong
+turn_with found to (Ok s) = Ok (record { found = found; state = s; next = to })
+turn_with found to (Err wrong) = Err wrong
 
-unfoldable pub turn_of : Notation → List ℕ → ℕ → State → Turn
+unfoldable pub turn_of : Notation → List ℕ → ℕ → State → Result Turn Wrong
 turn_of by text at s = turn_with (record_at_line by text at) (line_after text at) (taken_of s (record_at_line by text at))
 
 -- the file's record of a line; none for P, N and S and for a line that holds nothing
@@ -38,6 +38,6 @@ unfoldable pub end_of : State → ℕ → Reading Contents
 end_of s line = pick s.planned (says (contents_of s)) (faulty Wrong.NoPlan line)
 
 -- the pass that stores: what a text that is not faulty says lies over the buffers
-pub record OnePass (by : Notation) (text w v : List ℕ) (e : List ℤ) (r : ParseAnswer) (w' v' : List ℕ) (e' : List ℤ) : Type 0 where
-  pub answer : parse_says r ≡ reading_counts (text_of by text)
+pub record OnePass (by : Notation) (text w v : List ℕ) (e : List ℤ) (r : Result Contents Fault) (w' v' : List ℕ) (e' : List ℤ) : Type 0 where
+  pub answer : reads r ≡ reading_counts (text_of by text)
   pub kept : (c : Content) → text_of by text ≡ says c → (w' ≡ over c.words w) × (v' ≡ over c.values v) × (e' ≡ over c.errors e)

@@ -1,10 +1,12 @@
 -- The lines of the season's sheet as the code writes them, and how long they are at most, where every number fits 64 bits. Assumes nothing.
 use Prim.Native.Nat.{ℕ, ◌+◌, ◌≤◌}
-use mathlib.Core.Path.{◌≡◌, sym, ap, ◌∙◌}
+use mathlib.Core.Path.{◌≡◌, sym, ap}
 use mathlib.Core.List.{List, [], ◌∷◌, ◌++◌, map}
 use native.Mathlib.Omega.{arith}
 use lib.ListN.{length, length-append, get_or}
+use Rattle.std.specs.Prelude.{Result, Ok, Err}
 use Rattle.terms.specs.declared.Refusal.{Refusal}
+use Rattle.terms.specs.Outcome.{accepted, after, says}
 use Rattle.terms.specs.Refusals.{number, place}
 use Rattle.factors.specs.declared.Level.{Level}
 use Rattle.factors.specs.declared.Level.TheVariants.{P99, P95, P90, P85, P80, P75, P70, P60, P50}
@@ -16,9 +18,9 @@ use Rattle.pen.specs.Page.{Wrote, Printed}
 use Rattle.pen.proofs.Lengths.{Small, line_short}
 use Rattle.pen.proofs.Writing.{◌⨾◌, as_text, printed}
 use Rattle.sheet.specs.Lines.{refused_line}
-use Rattle.season.specs.declared.{Tally.Tally, AddAnswer.AddAnswer, HandedBack.HandedBack}
+use Rattle.season.specs.declared.{Tally.Tally, HandedBack.HandedBack}
 use Rattle.season.specs.Tally.{cell_of, no_tally}
-use Rattle.season.specs.Add.{says_with, add_says, AddPromise}
+use Rattle.season.specs.Add.{add_says, AddPromise}
 use Rattle.filing.specs.Filing.{files_of}
 use Rattle.overview.specs.Overview.{Bounded, level_line, three_lines, levels_text, sums_line, worst_line, tally_text, season_text, overview_text, longest_overview}
 
@@ -78,18 +80,18 @@ module _ (t : Tally) (s : SmallTally t) where
       record { wrote = w; short = omega (arith, line_short (letters "worst") (t.worst ∷ t.worst_limit ∷ t.worst_book ∷ []) (s.worst, (s.worst_limit, (s.worst_book, tt)))) }
 
 -- of what was handed back: the line of a refusal, or the sheet
-module _ (handed : HandedBack) {answer : AddAnswer} (its : answer ≡ handed.answer) where
-  text_is : season_text (add_says handed) ≡ season_text (says_with handed.tally answer)
-  text_is = ap (λ (a : AddAnswer). season_text (says_with handed.tally a)) (sym its)
+module _ (handed : HandedBack) where
+  text_is : {a : Result Unit Refusal} → handed.answer ≡ a → season_text (add_says handed) ≡ season_text (after (λ done. accepted handed.tally) (says a))
+  text_is is = ap (λ (a : Result Unit Refusal). season_text (after (λ done. accepted handed.tally) (says a))) is
 
-  pub season_refused : {why : Refusal} {o o' : List ℕ} {a a' : ℕ} → answer ≡ AddAnswer.Refused why → Wrote o a (refused_line (number why) (place why)) o' a' × (length (refused_line (number why) (place why)) ≤ 50) →
+  pub season_refused : {why : Refusal} {o o' : List ℕ} {a a' : ℕ} → handed.answer ≡ Err why → Wrote o a (refused_line (number why) (place why)) o' a' × (length (refused_line (number why) (place why)) ≤ 50) →
       Bounded o a (season_text (add_says handed)) o' a' longest_overview
   unfolding season_text
-  season_refused is w = bounded_as (text_is ∙ ap (λ (a : AddAnswer). season_text (says_with handed.tally a)) is) (omega arith) w.0 w.1
+  season_refused is w = bounded_as (text_is is) (omega arith) w.0 w.1
 
-  pub season_added : {o o' : List ℕ} {a a' : ℕ} → answer ≡ AddAnswer.Added → Bounded o a (tally_text handed.tally) o' a' 968 → Bounded o a (season_text (add_says handed)) o' a' longest_overview
+  pub season_added : {done : Unit} {o o' : List ℕ} {a a' : ℕ} → handed.answer ≡ Ok done → Bounded o a (tally_text handed.tally) o' a' 968 → Bounded o a (season_text (add_says handed)) o' a' longest_overview
   unfolding season_text
-  season_added is w = bounded_as (text_is ∙ ap (λ (a : AddAnswer). season_text (says_with handed.tally a)) is) (omega arith) w.wrote w.short
+  season_added is w = bounded_as (text_is is) (omega arith) w.wrote w.short
 
 -- of the files
 pub files_printed : (files : List ℕ) (handed : HandedBack) {page page' : List ℕ} {r : ℕ} → AddPromise no_tally (files_of files) handed → longest_overview ≤ length page →

@@ -8,7 +8,7 @@ ghost use Rattle.season.specs.Add.{add_says};
 ghost use Rattle.overview.specs.Overview.{Bounded, season_text, overview_text, longest_overview};
 
 use pen::Pen;
-use season::{AddAnswer, HandedBack};
+use season::HandedBack;
 
 // No sheet is longer: nine lines of 90 bytes, one of 89 and one of 69.
 pub const LONGEST_OVERVIEW: usize = 968;
@@ -17,11 +17,9 @@ pub const LONGEST_OVERVIEW: usize = 968;
 fn print_season(pen: Pen, page: &mut [u8], handed: HandedBack) -> Pen
     ensures { Bounded page.old pen.at (season_text (add_says handed)) page.new result.at longest_overview }
 {
-    let answer = handed.answer;
-    let tally = handed.tally;
-    match answer {
-        AddAnswer::Refused(why) => sheet::lines::refused_line(pen, page, why),
-        AddAnswer::Added => lines::tally_text(pen, page, tally),
+    match handed.answer {
+        Err(why) => sheet::lines::refused_line(pen, page, why),
+        Ok(()) => lines::tally_text(pen, page, handed.tally),
     }
 }
 
@@ -29,7 +27,5 @@ fn print_season(pen: Pen, page: &mut [u8], handed: HandedBack) -> Pen
 pub fn overview(files: &[u8], page: &mut [u8; LONGEST_OVERVIEW]) -> usize
     ensures { Printed (overview_text files.now) page.old result page.new }
 {
-    let handed = filing::tally_files(files);
-    let end = print_season(Pen { at: 0 }, page, handed);
-    end.at
+    print_season(Pen { at: 0 }, page, filing::tally_files(files)).at
 }

@@ -6,10 +6,8 @@ mod method; // method.rt: whether a text asks for the blackboard method
 
 use crate::method::letter_place;
 use entry::Notation;
-use notation::ParseAnswer;
 use std::io;
-use typed::Typed;
-use workfile::{Contents, WriteAnswer};
+use workfile::Contents;
 
 // The byte before the file of a text that asks for the blackboard method.
 fn put_method(rt: &HostRuntime, board: bool) -> io::Result<()> {
@@ -38,13 +36,12 @@ fn put_file(
         errors,
         &mut file,
     ) {
-        WriteAnswer::Written(length) => {
-            let end = length as usize;
+        Ok(length) => {
             put_method(rt, board)?;
-            rt.write_all(&file[..end])
+            rt.write_all(&file[..length as usize])
         }
         // no text earns this: `text_writes` of crate notation
-        WriteAnswer::Refused(_) => typed::say(&rt.stderr(), b"the text has no file\n"),
+        Err(_) => typed::say(&rt.stderr(), b"the text has no file\n"),
     }
 }
 
@@ -53,8 +50,8 @@ fn pack(rt: &HostRuntime, board: bool, text: &[u8]) -> io::Result<()> {
     let mut values = [0u64; workfile::MOST_FILE_LINES];
     let mut errors = [0i64; workfile::MOST_FILE_LINES];
     match notation::parse(text, Notation::Desk, &mut words, &mut values, &mut errors) {
-        ParseAnswer::Faulty(fault) => typed::say_fault(&rt.stderr(), fault, Notation::Desk),
-        ParseAnswer::Parsed(contents) => {
+        Err(fault) => typed::say_fault(&rt.stderr(), fault, Notation::Desk),
+        Ok(contents) => {
             let count = contents.words as usize;
             let lines = contents.lines as usize;
             put_file(
@@ -83,7 +80,7 @@ fn pack_text(rt: &HostRuntime, text: &mut [u8]) -> io::Result<()> {
 fn main(rt: HostRuntime) -> io::Result<()> {
     let mut text = [0u8; typed::TEXT_ROOM];
     match typed::read_text(&mut rt.stdin(), &rt.stderr(), &mut text)? {
-        Typed::Nothing => Ok(()),
-        Typed::Text(length) => pack_text(&rt, &mut text[..length]),
+        None => Ok(()),
+        Some(length) => pack_text(&rt, &mut text[..length]),
     }
 }

@@ -13,28 +13,25 @@ pub struct Pen {
 
 impl Pen {
     // One byte; at the end of the page, nothing.
+    #[tactic(auto, using(crate::proofs::Writing::byte_put, crate::proofs::Writing::byte_past))]
     pub fn byte(self, out: &mut [u8], b: u8) -> Pen
         ensures { Wrote out.old self.at (b ∷ []) out.new result.at }
     {
-        let at = self.at;
-        if at < out.len() {
-            out[at] = b;
-            let next = at + 1;
-            Pen { at: next }
-        } else {
-            self
+        if self.at >= out.len() {
+            return self;
         }
+        out[self.at] = b;
+        Pen { at: self.at + 1 }
     }
 
     // A text.
+    #[tactic(auto, using(crate::proofs::Writing::left_all, crate::proofs::Writing::byte_laid, crate::proofs::Writing::bytes_laid))]
     pub fn text(self, out: &mut [u8], bytes: &[u8]) -> Pen
         ensures { Wrote out.old self.at bytes.now out.new result.at }
     {
         let mut pen = self;
-        let mut i = 0;
-        while i < bytes.len() {
-            pen = pen.byte(out, bytes[i]);
-            i += 1;
+        for b in bytes {
+            pen = pen.byte(out, *b);
         }
         pen
     }
@@ -44,10 +41,10 @@ impl Pen {
         ensures { Wrote out.old self.at (decimal n) out.new result.at }
     {
         if n < 10 {
-            return self.byte(out, 48 + n as u8);
+            return self.byte(out, b'0' + n as u8);
         }
         let pen = self.number(out, n / 10);
-        pen.byte(out, 48 + (n % 10) as u8)
+        pen.byte(out, b'0' + (n % 10) as u8)
     }
 
     // A size with the sign of its kind: a minus before it where it is understated.
@@ -55,8 +52,7 @@ impl Pen {
         ensures { Wrote out.old self.at (sized_text size under) out.new result.at }
     {
         if under {
-            let pen = self.byte(out, 45);
-            return pen.number(out, size);
+            return self.byte(out, b'-').number(out, size);
         }
         self.number(out, size)
     }
@@ -72,27 +68,24 @@ impl Pen {
     pub fn sized_field(self, out: &mut [u8], size: u64, under: bool) -> Pen
         ensures { Wrote out.old self.at (32 ∷ sized_text size under) out.new result.at }
     {
-        let parted = self.byte(out, 32);
-        parted.sized(out, size, under)
+        self.byte(out, b' ').sized(out, size, under)
     }
 
     // A space and a number.
     pub fn field(self, out: &mut [u8], n: u64) -> Pen
         ensures { Wrote out.old self.at (32 ∷ decimal n) out.new result.at }
     {
-        let pen = self.byte(out, 32);
-        pen.number(out, n)
+        self.byte(out, b' ').number(out, n)
     }
 
     // Numbers, each after a space.
+    #[tactic(auto, using(crate::proofs::Writing::left_all, crate::proofs::Writing::field_laid, crate::proofs::Writing::fields_laid))]
     pub fn fields(self, out: &mut [u8], numbers: &[u64]) -> Pen
         ensures { Wrote out.old self.at (fieldsText numbers.now) out.new result.at }
     {
         let mut pen = self;
-        let mut i = 0;
-        while i < numbers.len() {
-            pen = pen.field(out, numbers[i]);
-            i += 1;
+        for n in numbers {
+            pen = pen.field(out, *n);
         }
         pen
     }
@@ -101,8 +94,6 @@ impl Pen {
     pub fn line(self, out: &mut [u8], word: &[u8], numbers: &[u64]) -> Pen
         ensures { Wrote out.old self.at (lineText (word.now ∷ map decimal numbers.now)) out.new result.at }
     {
-        let opened = self.text(out, word);
-        let filled = opened.fields(out, numbers);
-        filled.byte(out, 10)
+        self.text(out, word).fields(out, numbers).byte(out, b'\n')
     }
 }

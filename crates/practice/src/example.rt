@@ -29,42 +29,35 @@ fn ledger() -> [u64; 137]
 }
 
 pub fn interval(rt: &HostRuntime) -> io::Result<()> {
-    let lines = ledger();
-    found(rt, calls::split_figures(&lines, 136))
+    found(rt, calls::split_figures(&ledger(), 136))
 }
 
-// The projected error of one rate.
-fn projected(rt: &HostRuntime, rate: i64) -> io::Result<()> {
-    let lines = ledger();
+// The error of the first line, by its rate; the others have none.
+fn errors_of(rate: i64) -> [i64; 137]
+    ensures { 137 ≡ length result }
+{
     let mut errors = [0i64; 137];
     errors[0] = rate;
-    found(rt, calls::project(&lines, 136, 0, &errors))
+    errors
 }
 
+// The projected error of one rate after another.
 pub fn projections(rt: &HostRuntime) -> io::Result<()> {
-    projected(rt, 212)?;
-    projected(rt, 1)?;
-    projected(rt, 24)?;
-    projected(rt, 12)?;
-    projected(rt, 20)?;
-    projected(rt, 8)
+    for rate in [212, 1, 24, 12, 20, 8] {
+        found(rt, calls::project(&ledger(), 136, 0, &errors_of(rate)))?;
+    }
+    Ok(())
 }
 
 // The precision without errors is the basic one; the first order's allowance joins it.
-fn precision(rt: &HostRuntime, rate: i64) -> io::Result<()> {
-    let lines = ledger();
-    let mut errors = [0i64; 137];
-    errors[0] = rate;
-    found(rt, calls::judge(90, &lines, 136, 0, &errors, TE))
-}
-
 pub fn precisions(rt: &HostRuntime) -> io::Result<()> {
-    precision(rt, 0)?;
-    precision(rt, 212)
-}
-
-fn less(a: u64, b: u64) -> u64 {
-    if a > b { a - b } else { 0 }
+    for rate in [0, 212] {
+        found(
+            rt,
+            calls::judge(90, &ledger(), 136, 0, &errors_of(rate), TE),
+        )?;
+    }
+    Ok(())
 }
 
 // The step of an order at level 90, where none is below zero.
@@ -74,17 +67,16 @@ fn step_of(order: usize) -> u64
     if order == 0 {
         return 0;
     }
-    let factor = factors::reliability(Level::P90, order);
-    let former = factors::reliability(Level::P90, order - 1);
-    less(less(factor, former), 100) % 1_000
+    let factor = Level::P90.reliability(order);
+    let former = Level::P90.reliability(order - 1);
+    factor.saturating_sub(former).saturating_sub(100) % 1_000
 }
 
 // The step of an order times a projected error.
 fn allowance(rt: &HostRuntime, order: usize, projected: u64) -> io::Result<()>
     requires { projected ≤ 4000000000 }
 {
-    let step = step_of(order);
-    output::number(rt, step * projected / 100)
+    output::number(rt, step_of(order) * projected / 100)
 }
 
 pub fn allowances(rt: &HostRuntime) -> io::Result<()> {

@@ -5,7 +5,7 @@ use std::io;
 
 // The next byte of standard input; at its end, the end of a line.
 fn next_byte(rt: &HostRuntime) -> io::Result<u8> {
-    let mut byte = [10u8; 1];
+    let mut byte = [b'\n'];
     streams::read_full(&mut rt.stdin(), &mut byte)?;
     Ok(byte[0])
 }
@@ -14,18 +14,18 @@ fn next_byte(rt: &HostRuntime) -> io::Result<u8> {
 fn put_line(rt: &HostRuntime, page: &mut [u8]) -> io::Result<Pen> {
     let mut pen = Pen { at: 0 };
     let mut byte = next_byte(rt)?;
-    let mut i: usize = 0;
-    while i < page.len() && byte != 10 {
+    for _ in 0..page.len() {
+        if byte == b'\n' {
+            break;
+        }
         pen = pen.byte(page, byte);
         byte = next_byte(rt)?;
-        i += 1;
     }
     Ok(pen)
 }
 
 fn open(rt: &HostRuntime, page: &mut [u8]) -> io::Result<Pen> {
-    let told = put_line(rt, page)?;
-    Ok(told.text(page, b", found"))
+    Ok(put_line(rt, page)?.text(page, b", found"))
 }
 
 // A case that finds an answer.
@@ -46,10 +46,8 @@ pub fn number(rt: &HostRuntime, found: u64) -> io::Result<()> {
 
 fn put_marks(pen: Pen, page: &mut [u8], marks: &[u8]) -> Pen {
     let mut told = pen;
-    let mut i: usize = 0;
-    while i < marks.len() {
-        told = told.field(page, terms::widen(marks[i]));
-        i += 1;
+    for mark in marks {
+        told = told.field(page, *mark as u64);
     }
     told
 }

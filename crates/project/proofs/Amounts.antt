@@ -1,6 +1,6 @@
 -- One amount: rounded once and upwards, never above the interval, never less than the line's share and less than one cent in its place above
 -- it. Assumes nothing.
-use Prim.Native.Nat.{ℕ, zero, suc, ◌+◌, ◌-◌, ◌*◌, ◌/◌, ◌≤◌, ◌<◌, min, zero-le}
+use Prim.Native.Nat.{ℕ, zero, suc, ◌+◌, ◌*◌, ◌≤◌, ◌<◌, min, zero-le}
 use native.Mathlib.Nat.{mul-le-mul, mul-le-mul_right, mul_comm, zero-mul, mul-zero, suc-mul, eq-zero-or-pos}
 use native.Mathlib.Omega.{arith}
 use mathlib.Core.Path.{◌≡◌, refl, sym, ap, ◌∙◌}
@@ -8,16 +8,13 @@ use mathlib.Core.Logic.{⊎_elim}
 use mir.Syntax.{w64}
 use mir.Val.{Fits}
 use Rattle.terms.specs.Numbers.{div_up}
-use Rattle.terms.proofs.Rounding.{div_up_is, div_up_least, below_div_up, div_up_enough}
+use Rattle.terms.proofs.Rounding.{div_up_least, below_div_up, div_up_enough}
 use Rattle.project.specs.Lines.{amount}
 
 -- an amount is rounded once, and upwards
 pub amount_is : (J v e : ℕ) → amount J v e ≡ div_up (e * J) v
 unfolding amount
 amount_is J v e = refl
-
-pub amount_made : (J v e : ℕ) → (e * J + (v - 1)) / v ≡ amount J v e
-amount_made J v e = div_up_is (e * J) v ∙ sym (amount_is J v e)
 
 -- it is never above the interval
 pub amount_most : (J v e : ℕ) → 0 < v → e ≤ v → amount J v e ≤ J

@@ -10,46 +10,21 @@ use Rattle.terms.specs.Outcome.{accepted, refused, after}
 use Rattle.terms.proofs.Outcomes.{never, after_accepted, Gives, gives_after}
 use Rattle.terms.proofs.Tests.{by_test}
 use Rattle.project.specs.declared.State.{State}
-use Rattle.project.specs.declared.State.TheVariants.{NotDrawn, Drawn, Full}
 use Rattle.project.specs.declared.Line.{Line}
-use Rattle.project.specs.Lines.{amount}
-use Rattle.project.specs.Gather.{line_at}
 use Rattle.project.specs.Project.{misplaced, checked_line, checked_from}
 
--- a line's state by the tests, as `line_of` meets them
-module _ (J d v e : ℕ) where
-  pub is_full : J < v → ◌≡◌ {A = Line} (record { value = v; error = e; state = Full }) (line_at J d v e)
-  is_full h = simp (lt-ltb _ _ h)
-
-  pub is_drawn : (a : ℕ) → v ≤ J → d < v → a ≡ amount J v e → ◌≡◌ {A = Line} (record { value = v; error = e; state = Drawn a }) (line_at J d v e)
-  is_drawn a h l q = simp (le-ltb _ _ h, lt-ltb _ _ l, q)
-
-  pub not_drawn : v ≤ J → v ≤ d → ◌≡◌ {A = Line} (record { value = v; error = e; state = NotDrawn }) (line_at J d v e)
-  not_drawn h l = simp (le-ltb _ _ h, le-ltb _ _ l)
-
--- the check of a line k that is l, by its state, as `checked_line` meets it
+-- the check of a line: an error above the value is refused whatever its state
 pub above_value : (item : ℕ) (l : Line) → l.value < l.error → refused 14 item ≡ checked_line item l
 unfolding checked_line
 above_value item l h = simp (lt-ltb _ _ h)
 
+-- the check of a line k that is l, by its state
 module _ (item : ℕ) (l k : Line) (same : k ≡ l) (small : l.error ≤ l.value) where
   by_state : (s : State) (b : Bool) → k.state ≡ s → misplaced s l.error ≡ b → checked_line item l ≡ pick b (refused 15 item) (accepted k)
   unfolding checked_line
   by_state s b told q =
       let own : misplaced l.state l.error ≡ misplaced s l.error = ap (λ (y : Line). misplaced y.state l.error) (sym same) ∙ ap (λ (t : State). misplaced t l.error) told in
       simp (le-ltb _ _ small, own, q, same)
-
-  pub misplaced_line : k.state ≡ NotDrawn → 0 < l.error → refused 15 item ≡ checked_line item l
-  misplaced_line told h = sym (by_state _ _ told (lt-ltb _ _ h))
-
-  pub no_error : k.state ≡ NotDrawn → l.error ≤ 0 → accepted k ≡ checked_line item l
-  no_error told h = sym (by_state _ _ told (le-ltb _ _ h))
-
-  pub drawn_passes : (a : ℕ) → k.state ≡ Drawn a → accepted k ≡ checked_line item l
-  drawn_passes a told = sym (by_state _ _ told refl)
-
-  pub full_passes : k.state ≡ Full → accepted k ≡ checked_line item l
-  full_passes told = sym (by_state _ _ told refl)
 
 module _ (item : ℕ) (l : Line) where
   -- a line that passes

@@ -7,7 +7,7 @@ use native.Mathlib.Omega.{arith}
 use mathlib.Core.Path.{◌≡◌, refl, sym, ap, ◌∙◌, subst}
 use mathlib.Core.Bool.{Bool, true, false}
 use mathlib.Core.List.{List, [], ◌∷◌}
-use borrow.Author.Tests.{lt-ltb, le-ltb}
+use borrow.Author.Tests.{le-ltb}
 use lib.Dec.{ltb}
 use lib.IntN.{ℤ}
 use lib.ListN.{length, take}
@@ -30,10 +30,6 @@ use Rattle.project.proofs.Checking.{checked_rest, checked_same}
 
 -- one line, as `keep` meets it
 module _ (amounts : List ℕ) (m : ℕ) (s : State) (e : ℕ) where
-  pub kept_placed : (a : ℕ) (amounts' : List ℕ) → s ≡ Drawn a → 0 < e → amounts' ≡ placed amounts m a → amounts' ≡ kept_by amounts m s e
-  unfolding kept_by
-  kept_placed a amounts' q h p = p ∙ rw q (simp (lt-ltb _ _ h))
-
   pub kept_no_error : (a : ℕ) → s ≡ Drawn a → e ≤ 0 → amounts ≡ kept_by amounts m s e
   unfolding kept_by
   kept_no_error a q h = rw q (simp (le-ltb _ _ h))

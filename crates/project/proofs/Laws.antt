@@ -7,14 +7,11 @@ use Prim.Native.Nat.{ℕ, ◌+◌, ◌≤◌}
 use native.Mathlib.Omega.{arith}
 use lib.IntN.{ℤ, pos}
 use lib.ListN.{length, get_or, drop}
-use Rattle.terms.specs.declared.Refusal.{Refusal}
 use Rattle.terms.specs.Outcome.{Outcome, accepted, refused, after}
 use Rattle.terms.specs.Numbers.{pick, sum}
 use Rattle.terms.proofs.Outcomes.{after_accepted, Gives, gives_after, gives_among, refused_first}
 use Rattle.split.specs.declared.Figures.{Figures}
-use Rattle.split.specs.declared.SplitAnswer.{SplitAnswer}
-use Rattle.split.specs.Split.{split_says}
-use Rattle.split.specs.Start.{figures_for, FiguresForPromise}
+use Rattle.split.specs.Start.{figures_for}
 use Rattle.split.proofs.Start.{StartFacts, start_facts, figures_numbers, figures_give}
 use Rattle.signed.specs.declared.Part.{Part}
 use Rattle.signed.specs.declared.Part.TheVariants.{Overstated, Understated, Size}
@@ -27,11 +24,8 @@ use Rattle.project.specs.declared.State.{State}
 use Rattle.project.specs.declared.State.TheVariants.{NotDrawn, Drawn, Full}
 use Rattle.project.specs.declared.Line.{Line}
 use Rattle.project.specs.declared.Projection.{Projection}
-use Rattle.project.specs.declared.ProjectAnswer.{ProjectAnswer}
-use Rattle.project.specs.declared.ProjectAnswer.TheVariants.{Refused}
 use Rattle.project.specs.Lines.{amount, state_by, lines_from, lines_of}
-use Rattle.project.specs.Project.{checked_from, checked_lines, lines_with, both_kinds, projection_at, projected_by, project_of, ProjectPromise, Ready}
-use Rattle.project.specs.Gather.{GatherPromise}
+use Rattle.project.specs.Project.{checked_from, checked_lines, lines_with, both_kinds, projection_at, projected_by, project_of, Ready}
 use Rattle.project.proofs.Lines.{lines_walked}
 use Rattle.project.proofs.Checking.{checked_same, checked_anywhere, line_numbers, checked_gives}
 use Rattle.project.proofs.Less.{less_pass}
@@ -115,21 +109,6 @@ module _ (ledger : List ℕ) (n start : ℕ) (errors : List ℤ) where
   pub project_from : {o : Outcome Figures} → o ≡ figures_for ledger n start (length errors) → after (projected_by ledger start errors) o ≡ project_of ledger n start errors
   unfolding project_of
   project_from e = ap (after (projected_by ledger start errors)) e
-
-  -- it is made at the final interval
-  project_final : (f : Figures) → accepted f ≡ figures_for ledger n start (length errors) → projection_at 0 f.interval start ledger errors ≡ project_of ledger n start errors
-  project_final f e = project_from e
-
-  module _ (a : SplitAnswer) (promised : FiguresForPromise ledger n start (length errors) a) where
-    pub figures_refused : (why : Refusal) → a ≡ SplitAnswer.Refused why → ProjectPromise ledger n start errors (Refused why)
-    figures_refused why told = record { answer = project_from (sym (ap split_says told) ∙ promised.answer) }
-
-    module _ (f : Figures) (told : a ≡ SplitAnswer.Split f) where
-      pub figures_ready : Ready 0 f.interval start ledger errors
-      figures_ready = ready f (sym promised.answer ∙ ap split_says told)
-
-      pub figures_projected : (r : ProjectAnswer) (amounts amounts' : List ℕ) → GatherPromise 0 f.interval start ledger errors amounts r amounts' → ProjectPromise ledger n start errors r
-      figures_projected r amounts amounts' g = record { answer = g.answer ∙ project_final f (sym (ap split_says told) ∙ promised.answer) }
 
   -- what an accepted projection gives
   pub record ProjectFacts (p : Projection) : Type 0 where

@@ -4,59 +4,36 @@ ghost use Rattle.sorting.specs.Sorting.{Sorted};
 ghost use Rattle.project.specs.Project.{projection_of};
 ghost use Rattle.project.specs.Gather.{added_to, Fits, kept_by, Small, Passable, PassPromise};
 
-use crate::{Line, LineAnswer, PassAnswer, Progress, Projection, State, Sums, checked_line};
-use terms::Item;
+use crate::{Line, Progress, Projection, State, Sums, checked_line};
+use terms::{Item, Refusal};
 
 // The sums with one line added.
-fn added(sums: Sums, line: Line) -> Sums
+fn added(mut sums: Sums, line: Line) -> Sums
     requires { Fits sums line }
     ensures { result ≡ added_to sums line }
 {
-    let state = line.state;
-    match state {
-        State::NotDrawn => sums,
+    match line.state {
+        State::NotDrawn => {}
         State::Drawn(amount) => {
-            let sampled = sums.sampled + amount;
+            sums.sampled += amount;
             if line.error > 0 {
-                let m = sums.m + 1;
-                Sums {
-                    full: sums.full,
-                    sampled,
-                    m,
-                }
-            } else {
-                Sums {
-                    full: sums.full,
-                    sampled,
-                    m: sums.m,
-                }
+                sums.m += 1;
             }
         }
-        State::Full => {
-            let full = sums.full + line.error;
-            Sums {
-                full,
-                sampled: sums.sampled,
-                m: sums.m,
-            }
-        }
+        State::Full => sums.full += line.error,
     }
+    sums
 }
 
-// Puts the amount of a drawn line with an error above 0 in its place among the m before it, which fall, while there is room.
+// Puts the amount of a drawn line with an error above 0 in its place among the m before it, which fall, while there is room: a fixed array, since nothing here takes memory.
+#[tactic(auto, unfolding(crate::specs::Gather::kept_by))]
 fn keep(amounts: &mut [u64], m: u64, line: Line)
     requires { Sorted (take m amounts.old) }
     ensures { amounts.new ≡ kept_by amounts.old m line.state line.error }
 {
-    let state = line.state;
-    match state {
-        State::NotDrawn => {}
-        State::Drawn(amount) => {
-            if line.error > 0 {
-                sorting::insert_down(amounts, m as usize, amount);
-            }
-        }
-        State::Full => {}
+    match line.state {
+        State::Drawn(amount) if line.error > 0 => sorting::insert_down(amounts, m as usize, amount),
+        _ => {}
     }
 }
 
@@ -69,38 +46,27 @@ pub fn pass_line(
     interval: u64,
     at: Progress,
     amounts: &mut [u64],
-) -> PassAnswer
+) -> Result<Progress, Refusal>
     requires { Passable interval value at amounts.old }
     ensures { PassPromise item.0 value error interval at amounts.old result amounts.new }
 {
-    let over = at.over;
-    let under = at.under;
-    let here = at.next;
+    let Progress {
+        over,
+        under,
+        next: here,
+    } = at;
     let next = walk::step_over(value, interval, here);
     if error == 0 {
-        return PassAnswer::Further(Progress { over, under, next });
+        return Ok(Progress { over, under, next });
     }
-    let size = signed::size_of(error);
-    match checked_line(item, value, size, interval, here) {
-        LineAnswer::Refused(why) => PassAnswer::Refused(why),
-        LineAnswer::Known(line) => {
-            if error < 0 {
-                let more = added(under, line);
-                return PassAnswer::Further(Progress {
-                    over,
-                    under: more,
-                    next,
-                });
-            }
-            let more = added(over, line);
-            keep(amounts, over.m, line);
-            PassAnswer::Further(Progress {
-                over: more,
-                under,
-                next,
-            })
-        }
+    let line = checked_line(item, value, signed::size_of(error), interval, here)?;
+    if error < 0 {
+        let under = added(under, line);
+        return Ok(Progress { over, under, next });
     }
+    keep(amounts, over.m, line);
+    let over = added(over, line);
+    Ok(Progress { over, under, next })
 }
 
 // Both kinds' sums, and what the overstatements are more than the understatements.

@@ -12,19 +12,10 @@ pub fn share_exceeds(a: u64, b: u64, c: u64, d: u64) -> bool
 {
     let left = a / b;
     let right = c / d;
-    if left < right {
-        return false;
-    }
-    if right < left {
-        return true;
+    if left != right {
+        return left > right;
     }
     let p = a % b;
     let q = c % d;
-    if p == 0 {
-        return false;
-    }
-    if q == 0 {
-        return true;
-    }
-    share_exceeds(d, q, b, p)
+    p > 0 && (q == 0 || share_exceeds(d, q, b, p))
 }

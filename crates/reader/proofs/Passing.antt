@@ -24,18 +24,27 @@ use Rattle.records.proofs.Judging.{went, ended, barred}
 use Rattle.records.proofs.Counting.{tally_grow}
 use Rattle.reader.specs.Steps.{Opened, stopped_at, stopped_in, check_of}
 use Rattle.reader.specs.declared.Stopped.{Stopped}
-use Rattle.reader.specs.declared.Checked.TheVariants.{Legal, Broken}
+
+-- nothing is counted
+abbrev pub none_counted : Tally
+none_counted = record { words = 0; lines = 0; sum = 0; next_line = 0 }
+
+abbrev pub NoneCounted : Tally → Type 0
+NoneCounted t = (t.words ≡ 0) × ((t.lines ≡ 0) × ((t.sum ≡ 0) × (t.next_line ≡ 0)))
+
+at_none : {t : Tally} → NoneCounted t → none_counted ≡ t
+at_none n = λ i. record { words = sym n.0 i; lines = sym n.1.0 i; sum = sym n.1.1.0 i; next_line = sym n.1.1.1 i }
 
 -- no P
-stopped_none : (f : List ℕ) → has_plan f ≡ false → record { at = 0; tally = record { words = 0; lines = 0; sum = 0; next_line = 0 }; ends = false } ≡ stopped_in f
+not_begun : (f : List ℕ) {s : Stopped} → (s.at ≡ 0) × (NoneCounted s.tally × (s.ends ≡ false)) → has_plan f ≡ false → s ≡ stopped_in f
 unfolding stopped_in
-stopped_none f h = rw h
+not_begun f n h = sym (rw h (λ i. record { at = sym n.0 i; tally = at_none n.1.0 i; ends = sym n.1.1 i }))
 
-pub too_short : (f : List ℕ) → length f < 18 → record { at = 0; tally = record { words = 0; lines = 0; sum = 0; next_line = 0 }; ends = false } ≡ stopped_in f
-too_short f h = stopped_none f (short_plan f h)
+pub too_short : (f : List ℕ) {s : Stopped} → (s.at ≡ 0) × (NoneCounted s.tally × (s.ends ≡ false)) → length f < 18 → s ≡ stopped_in f
+too_short f n h = not_begun f n (short_plan f h)
 
-pub not_plan : (f : List ℕ) → (get_or f 0 0 ≡ 0x50 → ⊥) → record { at = 0; tally = record { words = 0; lines = 0; sum = 0; next_line = 0 }; ends = false } ≡ stopped_in f
-not_plan f h = stopped_none f (other_kind f h)
+pub not_plan : (f : List ℕ) {s : Stopped} → (s.at ≡ 0) × (NoneCounted s.tally × (s.ends ≡ false)) → (get_or f 0 0 ≡ 0x50 → ⊥) → s ≡ stopped_in f
+not_plan f n h = not_begun f n (other_kind f h)
 
 -- where a pass stands that has read c and counted t
 pub record Stands (f : List ℕ) (at : ℕ) (t : Tally) (c : Content) : Type 0 where
@@ -48,11 +57,11 @@ pub record Passing (f : List ℕ) (at : ℕ) (t : Tally) : Type 0 where
   pub read : Content
   pub stands : Stands f at t read
 
-pub at_plan : (f : List ℕ) → 18 ≤ length f → get_or f 0 0 ≡ 0x50 → Stands f 18 (record { words = 0; lines = 0; sum = 0; next_line = 0 }) (start (plan_of f))
-at_plan f l k = record { tally = refl; so_far = at_first (plan_of f); plan = has_plan_lem f l k; place = plan_read f l }
+pub at_plan : (f : List ℕ) {t : Tally} → 18 ≤ length f → get_or f 0 0 ≡ 0x50 → NoneCounted t → Stands f 18 t (start (plan_of f))
+at_plan f l k n = record { tally = at_none n; so_far = at_first (plan_of f); plan = has_plan_lem f l k; place = plan_read f l }
 
-pub begun : {f : List ℕ} → Opened f → Passing f 18 (record { words = 0; lines = 0; sum = 0; next_line = 0 })
-begun {f} o = record { read = start (plan_of f); stands = at_plan f o.long o.kind }
+pub begun : {f : List ℕ} {t : Tally} → Opened f → NoneCounted t → Passing f 18 t
+begun {f} o n = record { read = start (plan_of f); stands = at_plan f o.long o.kind n }
 
 -- the judgement at hand is that of the record there
 module _ {f : List ℕ} {at : ℕ} {t : Tally} {c : Content} (here : Stands f at t c) {r : FileRecord} {j : Judged} (found : r ≡ record_at f at) (judgement : j ≡ judged t r) where
@@ -89,14 +98,19 @@ module _ {f : List ℕ} {at : ℕ} {t : Tally} {c : Content} (here : Stands f at
   pub at_end : j ≡ Last → record { at = at; tally = t; ends = true } ≡ stopped_in f
   at_end e = let x = ended (tally_of c) (record_at f at) (sym judged_there ∙ e) in stopped true x.fit (rw (x.fit, x.is_last))
 
-  pub at_fault : j ≡ Bad → record { at = at; tally = t; ends = false } ≡ stopped_in f
-  at_fault e = let x = barred (tally_of c) (record_at f at) (sym judged_there ∙ e) in stopped false x (rw x)
+  pub at_fault : ((u : Tally) (n : ℕ) → j ≡ Next u n → ⊥) → (j ≡ Last → ⊥) → record { at = at; tally = t; ends = false } ≡ stopped_in f
+  at_fault no_step no_end = let x = barred (tally_of c) (record_at f at) (sym judged_there ∙ bad j refl) in stopped false x (rw x)
+    where
+      bad : (x : Judged) → j ≡ x → j ≡ Bad
+      bad (Next u n) is = absurd (no_step u n is)
+      bad Last is = absurd (no_end is)
+      bad Bad is = is
 
 -- what that says of the file
 module _ (f : List ℕ) (s : Stopped) (is : s ≡ stopped_in f) where
   -- one case where P stands first, and one where it does not
   by_plan : (P : Stopped → Type 0) → (has_plan f ≡ true → P (stopped_at f (stop_in f)))
-      → (has_plan f ≡ false → P (record { at = 0; tally = record { words = 0; lines = 0; sum = 0; next_line = 0 }; ends = false })) → P s
+      → (has_plan f ≡ false → P (record { at = 0; tally = none_counted; ends = false })) → P s
   unfolding stopped_in
   by_plan P there none = subst P (sym is) (by_test P (has_plan f) there none)
 
@@ -111,9 +125,9 @@ module _ (f : List ℕ) (s : Stopped) (is : s ≡ stopped_in f) where
   pub within : s.at ≤ length f
   within = by_plan (λ x. x.at ≤ length f) (λ h. (halts_in f h).within) (λ h. omega arith)
 
-  pub breaks_there : s.ends ≡ false → Broken s.at ≡ check_of (decode f)
+  pub breaks_there : s.ends ≡ false → refused 17 s.at ≡ check_of (decode f)
   breaks_there =
-      by_plan (λ x. x.ends ≡ false → Broken x.at ≡ check_of (decode f))
+      by_plan (λ x. x.ends ≡ false → refused 17 x.at ≡ check_of (decode f))
       (λ h g. sym (ap check_of (decode_decided f h ∙ decided_bad f (stop_in f) g))) (λ h g. sym (ap check_of (no_plan f h)))
 
   -- Z that the rules allow
@@ -128,18 +142,18 @@ module _ (f : List ℕ) (s : Stopped) (is : s ≡ stopped_in f) where
   pub z_whole : s.ends ≡ true → s.at + 13 ≤ length f
   z_whole e = omega (arith, (ended_there e).2)
 
-  closed_there : s.ends ≡ true → (b : Bool) → eqb (length f - s.at) 13 ≡ b → pick b Legal (Broken (s.at + 13)) ≡ check_of (decode f)
+  closed_there : s.ends ≡ true → (b : Bool) → eqb (length f - s.at) 13 ≡ b → pick b (accepted tt) (refused 17 (s.at + 13)) ≡ check_of (decode f)
   closed_there e b l =
       let x = ended_there e in
       sym (ap check_of x.1 ∙ ap (λ (n : ℕ). check_of (pick (eqb n 13) (accepted x.0) (refused 17 (s.at + 13)))) (length-drop s.at f)
       ∙ ap (λ (t : Bool). check_of (pick t (accepted x.0) (refused 17 (s.at + 13)))) l ∙ go b)
     where
-      go : (t : Bool) → check_of (pick t (accepted (ended_there e).0) (refused 17 (s.at + 13))) ≡ pick t Legal (Broken (s.at + 13))
+      go : (t : Bool) → check_of (pick t (accepted (ended_there e).0) (refused 17 (s.at + 13))) ≡ pick t (accepted tt) (refused 17 (s.at + 13))
       go true = refl
       go false = refl
 
-  pub closes : s.ends ≡ true → length f - s.at ≡ 13 → Legal ≡ check_of (decode f)
+  pub closes : s.ends ≡ true → length f - s.at ≡ 13 → accepted tt ≡ check_of (decode f)
   closes e l = closed_there e true (eq-eqb (length f - s.at) 13 l)
 
-  pub trails : s.ends ≡ true → (length f - s.at ≡ 13 → ⊥) → Broken (s.at + 13) ≡ check_of (decode f)
+  pub trails : s.ends ≡ true → (length f - s.at ≡ 13 → ⊥) → refused 17 (s.at + 13) ≡ check_of (decode f)
   trails e l = closed_there e false (ne_eqb (length f - s.at) 13 l)

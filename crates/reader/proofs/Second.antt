@@ -5,11 +5,10 @@ use mathlib.Core.Bool.{Bool, true, false}
 use mathlib.Core.List.{List}
 use lib.Dec.{eqb}
 use lib.IntN.{ℤ}
-use lib.ListN.{length, get_or, drop}
+use lib.ListN.{length, drop}
 use Rattle.terms.specs.Outcome.{accepted, refused, left}
 use Rattle.terms.specs.Numbers.{pick}
 use Rattle.terms.proofs.Outcomes.{never}
-use Rattle.workfile.specs.Numbers.{little_endian}
 use Rattle.workfile.specs.Content.{Content}
 use Rattle.workfile.specs.Decode.{record_at, tally_of, grow, fits, plan_of, start, decode}
 use Rattle.workfile.specs.Rules.{Rule}
@@ -21,31 +20,14 @@ use Rattle.workfile.proofs.Rules.{rule, is_end_lem}
 use Rattle.workfile.proofs.Growing.{plan_grow, counted_end}
 use Rattle.workfile.proofs.OneFile.{plan_there}
 use Rattle.workfile.proofs.Stopping.{breaks, ends}
-use Rattle.records.specs.Judging.{tallied, Allowed, judged}
+use Rattle.records.specs.Judging.{tallied}
 use Rattle.records.specs.declared.Judged.{Judged}
 use Rattle.records.specs.declared.Judged.TheVariants.{Next, Last, Bad}
 use Rattle.records.proofs.Judging.{Went, Ended, went, ended, barred}
-use Rattle.store.specs.Storing.{HasPlace, Put}
-use Rattle.store.proofs.Holding.{Holds, holds_none, lengths, has_place, holds_more}
-use Rattle.reader.proofs.Passing.{Stands, at_plan, judged_there, one_on, less}
+use Rattle.store.specs.Storing.{HasPlace}
+use Rattle.store.proofs.Holding.{Holds, holds_none, has_place, holds_more}
+use Rattle.reader.proofs.Passing.{NoneCounted, Stands, at_plan, judged_there, one_on, less}
 use Rattle.reader.specs.Steps.{Stepped, contents_with, IsLegal, Stored}
-
--- the answer, field by field
-pub contents_of : (f : List ℕ) (t : Tally) {te ae : ℕ} → te ≡ little_endian 8 (drop 2 f) → ae ≡ little_endian 8 (drop 10 f)
-    → record { level = get_or f 1 0; te = te; ae = ae; words = t.words; lines = t.lines } ≡ contents_with (plan_of f) t
-contents_of f t p q = λ i. record { level = get_or f 1 0; te = p i; ae = q i; words = t.words; lines = t.lines }
-
--- one step, from its parts
-pub stepped : {f : List ℕ} {at : ℕ} {t : Tally} {r : FileRecord} {j : Judged} {w v w' v' : List ℕ} {e e' : List ℤ}
-    → r ≡ record_at f at → j ≡ judged t r → Put t r w v e w' v' e' → Stepped f at t j w v e w' v' e'
-stepped {f} {at} {t} {r} {j} {w} {v} {w'} {v'} {e} {e'} is judgement put =
-    record { judgement = judgement ∙ ap (judged t) is; stored = subst (λ (x : FileRecord). Put t x w v e w' v' e') is put }
-
-pub found_place : {t : Tally} {r x : FileRecord} {w v : List ℕ} {e : List ℤ} → r ≡ x → HasPlace t x w v e → HasPlace t r w v e
-found_place {t} {w} {v} {e} is = subst (λ (x : FileRecord). HasPlace t x w v e) (sym is)
-
-pub found_allowed : {t : Tally} {r x : FileRecord} {w v : List ℕ} {e : List ℤ} → r ≡ x → HasPlace t x w v e → Allowed t r
-found_allowed {t} is place = record { rule = subst (Rule t) (sym is) place.rule }
 
 -- Z was last, since the file is legal
 closed_so : (b : Bool) (c : Content) (n : ℕ) (d : Content) → pick b (accepted c) (refused 17 n) ≡ accepted d → accepted c ≡ accepted d
@@ -64,8 +46,11 @@ pub record Storing (f ws vs : List ℕ) (es : List ℤ) (at : ℕ) (t : Tally) (
 pub plan_long : (f : List ℕ) → IsLegal f → 18 ≤ length f
 plan_long f a = (plan_there f a.0 a.1).1
 
-pub sets_out : {f ws vs : List ℕ} {es : List ℤ} → IsLegal f → Rooms ws vs es → Storing f ws vs es 18 (record { words = 0; lines = 0; sum = 0; next_line = 0 }) ws vs es
-sets_out {f} a m = let p = plan_there f a.0 a.1 in record { legal = a; rooms = m; read = start (plan_of f); plan = refl; stands = at_plan f p.1 p.0; kept = holds_none }
+pub sets_out : {f ws vs : List ℕ} {es : List ℤ} {t : Tally} → IsLegal f → Rooms ws vs es → NoneCounted t → Storing f ws vs es 18 t ws vs es
+sets_out {f} {ws} {vs} {es} {t} a m n =
+    let p = plan_there f a.0 a.1 in
+    let stands = at_plan f p.1 p.0 n in
+    record { legal = a; rooms = m; read = start (plan_of f); plan = refl; stands = stands; kept = subst (λ (u : Tally). Holds (start (plan_of f)) u ws vs es ws vs es) stands.tally holds_none }
 
 module _ {f ws vs : List ℕ} {es : List ℤ} {at : ℕ} {t : Tally} {w v : List ℕ} {e : List ℤ} (s : Storing f ws vs es at t w v e) where
   abbrev r : FileRecord
@@ -91,15 +76,6 @@ module _ {f ws vs : List ℕ} {es : List ℤ} {at : ℕ} {t : Tally} {w v : List
   module _ {j : Judged} {w' v' : List ℕ} {e' : List ℤ} (q : Stepped f at t j w v e w' v' e') where
     held : Holds (grow c r) (tallied t r) ws vs es w' v' e'
     held = holds_more s.kept s.rooms its_rule q.stored
-
-    pub same_words : length w' ≡ length ws
-    same_words = (lengths held s.rooms).words
-
-    pub same_values : length v' ≡ length vs
-    same_values = (lengths held s.rooms).values
-
-    pub same_errors : length e' ≡ length es
-    same_errors = (lengths held s.rooms).errors
 
     pub goes_on_lem : {u : Tally} {n : ℕ} → j ≡ Next u n → Storing f ws vs es (at + n) u w' v' e'
     goes_on_lem {u} {n} is =

@@ -1,6 +1,6 @@
 -- The parts of the reader: the first pass, and the second. Definitions: nothing is assumed.
 use Rattle.std.specs.Prelude.{ℕ, ◌≤◌, ◌≡◌, false, List, ℤ, length, get_or}
-use Rattle.terms.specs.Outcome.{Outcome, accepted, refused, left}
+use Rattle.terms.specs.Outcome.{Outcome, accepted, after, left}
 use Rattle.terms.specs.Numbers.{pick}
 use Rattle.workfile.specs.Content.{Content}
 use Rattle.workfile.specs.Decode.{record_at, tally_of, fits, has_plan, decode, Stop, stop_in}
@@ -9,7 +9,7 @@ use Rattle.workfile.specs.declared.{Plan.Plan, Tally.Tally, Contents.Contents}
 use Rattle.records.specs.Judging.{judged}
 use Rattle.records.specs.declared.Judged.{Judged}
 use Rattle.store.specs.Storing.{Put}
-use Rattle.reader.specs.declared.{Stopped.Stopped, Checked.Checked}
+use Rattle.reader.specs.declared.Stopped.{Stopped}
 
 -- what the first pass answers: where the records that the rules allow end, their counts, and whether Z ends them; without P nothing is counted
 abbrev pub stopped_at : List ℕ → Stop → Stopped
@@ -24,9 +24,8 @@ pub record Opened (f : List ℕ) : Type 0 where
   pub kind : get_or f 0 0 ≡ 0x50
 
 -- what that says of the file
-abbrev pub check_of : Outcome Content → Checked
-check_of (accepted c) = Checked.Legal
-check_of (refused n at) = Checked.Broken at
+abbrev pub check_of : Outcome Content → Outcome Unit
+check_of o = after (λ c. accepted tt) o
 
 -- the record at a place of a file, judged and stored
 pub record Stepped (f : List ℕ) (at : ℕ) (t : Tally) (j : Judged) (w v : List ℕ) (e : List ℤ) (w' v' : List ℕ) (e' : List ℤ) : Type 0 where

@@ -4,64 +4,43 @@
 mod storing; // storing.rt: the content of a legal file goes to the buffers
 
 ghost use Rattle.std.specs.Prelude.{◌≡◌};
+ghost use Rattle.terms.specs.Outcome.{says};
 ghost use Rattle.workfile.specs.Decode.{decode};
 ghost use Rattle.workfile.specs.Promises.{ReadPromise};
 ghost use Rattle.reader.specs.Steps.{Opened, stopped_in, check_of};
 
 use records::Judged;
 use terms::Refusal;
-use workfile::{ReadAnswer, Tally};
+use workfile::{Contents, Tally};
 
-// Where the first pass stopped: the offset after the records that the rules allow, Z left out; their counts; and whether Z ends them.
-#[derive(Clone, Copy)]
+// Where the first pass stopped: the offset after the records that the rules allow, Z left out; their counts; and whether Z ends them. Not a Result:
+// the salvage takes the run that no Z ends too.
+#[derive(Clone, Copy, Default)]
 pub struct Stopped {
     pub at: usize,
     pub tally: Tally,
     pub ends: bool,
 }
 
-// A file judged by the rules: legal, or the offset of the first record that breaks one.
-#[derive(Clone, Copy)]
-pub enum Checked {
-    Legal,
-    Broken(usize),
-}
-
 // The records after P, as far as the rules allow them.
+#[tactic(auto, using(crate::proofs::Passing::begun, crate::proofs::Passing::onward))]
 fn pass_records(file: &[u8]) -> Stopped
     requires { Opened file.now }
     ensures { result ≡ stopped_in file.now }
 {
-    let mut tally = Tally {
-        words: 0,
-        lines: 0,
-        sum: 0,
-        next_line: 0,
-    };
-    let mut at: usize = 18;
+    let mut tally = Tally::default();
+    let mut at = 18;
     loop {
-        let found = records::record_at(file, at);
-        let judged = records::rules::judge(tally, found);
-        match judged {
-            Judged::Next(next, size) => {
-                tally = next;
-                at = at + size;
-            }
-            Judged::Last => {
-                return Stopped {
-                    at,
-                    tally,
-                    ends: true,
-                };
-            }
-            Judged::Bad => {
-                return Stopped {
-                    at,
-                    tally,
-                    ends: false,
-                };
-            }
-        }
+        let judged = records::rules::judge(tally, records::record_at(file, at));
+        let Judged::Next(next, size) = judged else {
+            return Stopped {
+                at,
+                tally,
+                ends: matches!(judged, Judged::Last),
+            };
+        };
+        tally = next;
+        at += size;
     }
 }
 
@@ -69,60 +48,43 @@ fn pass_records(file: &[u8]) -> Stopped
 pub fn pass(file: &[u8]) -> Stopped
     ensures { result ≡ stopped_in file.now }
 {
-    let tally = Tally {
-        words: 0,
-        lines: 0,
-        sum: 0,
-        next_line: 0,
-    };
-    if file.len() < 18 {
-        return Stopped {
-            at: 0,
-            tally,
-            ends: false,
-        };
-    }
-    let kind = file[0];
-    if kind != 0x50 {
-        return Stopped {
-            at: 0,
-            tally,
-            ends: false,
-        };
+    if file.len() < 18 || file[0] != 0x50 {
+        return Stopped::default();
     }
     pass_records(file)
 }
 
-// What the first pass says of the file: Z is last, and nothing follows.
-fn check(file: &[u8]) -> Checked
-    ensures { result ≡ check_of (decode file.now) }
+// Legal where Z is last and nothing follows, or 17 with the place of the first record that breaks a rule.
+#[tactic(auto, using(crate::proofs::Passing::within, crate::proofs::Passing::breaks_there, crate::proofs::Passing::z_whole, crate::proofs::Passing::closes, crate::proofs::Passing::trails))]
+fn check(file: &[u8]) -> Result<(), Refusal>
+    ensures { says result ≡ check_of (decode file.now) }
 {
     let stopped = pass(file);
-    let stop = stopped.at;
-    if stopped.ends {
-        if file.len() - stop == 13 {
-            return Checked::Legal;
-        }
-        return Checked::Broken(stop + 13);
+    if !stopped.ends {
+        return Err(Refusal::FileBreaksRule(stopped.at as u64));
     }
-    Checked::Broken(stop)
+    if file.len() - stopped.at != 13 {
+        return Err(Refusal::FileBreaksRule((stopped.at + 13) as u64));
+    }
+    Ok(())
 }
 
 // The content of a working file goes to the buffers; 18 before 17, and a refused call changes nothing.
-pub fn read(file: &[u8], words: &mut [u64], values: &mut [u64], errors: &mut [i64]) -> ReadAnswer
+#[tactic(auto, unfolding(workfile::specs::Promises::read_of), using(crate::proofs::Answers::read_file, crate::proofs::Answers::broken_file, crate::proofs::Answers::is_legal))]
+pub fn read(
+    file: &[u8],
+    words: &mut [u64],
+    values: &mut [u64],
+    errors: &mut [i64],
+) -> Result<Contents, Refusal>
     ensures { ReadPromise file.now words.old values.old errors.old result words.new values.new errors.new }
 {
     if words.len() < workfile::MOST_WORDS {
-        return ReadAnswer::Refused(Refusal::RoomTooShort(workfile::MOST_WORDS as u64));
+        return Err(Refusal::RoomTooShort(workfile::MOST_WORDS as u64));
     }
-    if values.len() < workfile::MOST_FILE_LINES {
-        return ReadAnswer::Refused(Refusal::RoomTooShort(workfile::MOST_FILE_LINES as u64));
+    if values.len() < workfile::MOST_FILE_LINES || errors.len() < workfile::MOST_FILE_LINES {
+        return Err(Refusal::RoomTooShort(workfile::MOST_FILE_LINES as u64));
     }
-    if errors.len() < workfile::MOST_FILE_LINES {
-        return ReadAnswer::Refused(Refusal::RoomTooShort(workfile::MOST_FILE_LINES as u64));
-    }
-    match check(file) {
-        Checked::Broken(at) => ReadAnswer::Refused(Refusal::FileBreaksRule(at as u64)),
-        Checked::Legal => ReadAnswer::Read(storing::store(file, words, values, errors)),
-    }
+    check(file)?;
+    Ok(storing::store(file, words, values, errors))
 }

@@ -21,9 +21,8 @@ fn step(
     ensures { Stepped file.now at tally result words.old values.old errors.old words.new values.new errors.new }
 {
     let found = records::record_at(file, at);
-    let judged = records::rules::take(tally, found);
     store::put_record(found, tally, words, values, errors);
-    judged
+    records::rules::take(tally, found)
 }
 
 // The reader's answer: the plan, which stands first, and the counts of words and lines.
@@ -31,41 +30,27 @@ fn contents(file: &[u8], tally: Tally) -> Contents
     requires { 18 ≤ length file.now }
     ensures { result ≡ contents_with (plan_of file.now) tally }
 {
-    let level = file[1];
-    let te = records::numbers::eight_bytes(file, 2);
-    let ae = records::numbers::eight_bytes(file, 10);
     Contents {
-        level: level,
-        te: te,
-        ae: ae,
+        level: file[1],
+        te: records::numbers::eight_bytes(file, 2),
+        ae: records::numbers::eight_bytes(file, 10),
         words: tally.words as u64,
         lines: tally.lines as u64,
     }
 }
 
 // The whole pass; answers the plan and the counts.
+#[tactic(auto, using(crate::proofs::Second::sets_out, crate::proofs::Second::goes_on_lem, crate::proofs::Second::plan_long))]
 pub fn store(file: &[u8], words: &mut [u64], values: &mut [u64], errors: &mut [i64]) -> Contents
     requires { IsLegal file.now × Rooms words.old values.old errors.old }
     ensures { Stored file.now words.old values.old errors.old result words.new values.new errors.new }
 {
-    let mut at: usize = 18;
-    let mut tally = Tally {
-        words: 0,
-        lines: 0,
-        sum: 0,
-        next_line: 0,
-    };
-    loop {
-        let judged = step(file, at, tally, words, values, errors);
-        match judged {
-            Judged::Next(next, size) => {
-                tally = next;
-                at = at + size;
-            }
-            // Z, for a legal file breaks no rule.
-            _ => {
-                return contents(file, tally);
-            }
-        }
+    let mut tally = Tally::default();
+    let mut at = 18;
+    // Z ends it, for a legal file breaks no rule.
+    while let Judged::Next(next, size) = step(file, at, tally, words, values, errors) {
+        tally = next;
+        at += size;
     }
+    contents(file, tally)
 }

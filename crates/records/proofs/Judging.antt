@@ -1,38 +1,18 @@
 -- The judgement of a record from the rules as facts, and what each judgement says of the record. Assumes nothing.
 use Prim.Native.Nat.{ℕ, ◌+◌, ◌<◌}
-use mathlib.Core.Path.{◌≡◌, refl, ap, sym, ◌∙◌}
+use mathlib.Core.Path.{◌≡◌, ap, sym, ◌∙◌}
 use mathlib.Core.Bool.{Bool, true, false}
 use native.Mathlib.Omega.{arith}
 use Rattle.terms.specs.Numbers.{pick}
 use Rattle.terms.proofs.Tests.{by_test}
 use Rattle.workfile.specs.Content.{sum_bound}
 use Rattle.workfile.specs.Decode.{size, is_end, fits}
-use Rattle.workfile.specs.Rules.{Rule}
 use Rattle.workfile.specs.declared.Tally.{Tally}
 use Rattle.workfile.specs.declared.FileRecord.{FileRecord}
 use Rattle.workfile.specs.declared.FileRecord.TheVariants.{Word, Value, ErrorOf, End, Nothing}
 use Rattle.workfile.proofs.Rules.{rule, fitted}
 use Rattle.records.specs.Judging.{tallied, Allowed, judged}
 use Rattle.records.specs.declared.Judged.TheVariants.{Next, Last, Bad}
-
--- the test of a record, from the rules as facts
-module _ (t : Tally) (r : FileRecord) where
-  pub fitting : Rule t r → true ≡ fits t r
-  fitting h = sym (fitted t r h)
-
-  pub unfitting : (Rule t r → ⊥) → false ≡ fits t r
-  unfitting h = sym (none (fits t r) refl)
-    where
-      none : (b : Bool) → fits t r ≡ b → fits t r ≡ false
-      none true e = absurd (h (rule t r e))
-      none false e = e
-
--- the test of a record that is known
-pub fits_as : (t : Tally) {r x : FileRecord} {b : Bool} → b ≡ fits t x → r ≡ x → b ≡ fits t r
-fits_as t is known = is ∙ ap (fits t) (sym known)
-
-pub nothing_fits : (t : Tally) (r : FileRecord) → r ≡ Nothing → false ≡ fits t r
-nothing_fits t r known = unfitting t r (λ h. rw known at h)
 
 -- the judgement, from the test
 pub tested : {t : Tally} {r : FileRecord} {b : Bool} → b ≡ fits t r → b ≡ true → Allowed t r
@@ -43,7 +23,8 @@ unfolding judged
 untested t r is failed = rw (sym is ∙ failed)
 
 pub no_record : (t : Tally) (r : FileRecord) → r ≡ Nothing → Bad ≡ judged t r
-no_record t r known = untested t r (nothing_fits t r known) refl
+unfolding judged fits
+no_record t r known = rw known
 
 -- a record that the rules allow can be counted, and is judged by its kind alone
 module _ {t : Tally} {r : FileRecord} (allowed : Allowed t r) where

@@ -10,7 +10,7 @@ ghost use Rattle.workfile.specs.Decode.{record_at};
 use numbers::{eight_bytes, four_bytes};
 use workfile::{FileRecord, Tally};
 
-// A record judged by the rules: the counts with it and its length; Z; or a broken rule.
+// A record judged by the rules: the counts with it and its length; Z; or a broken rule: three cases, which neither Option nor Result has.
 #[derive(Clone, Copy)]
 pub enum Judged {
     Next(Tally, usize),
@@ -19,6 +19,7 @@ pub enum Judged {
 }
 
 // The whole record that stands at `at`.
+#[tactic(auto, using(workfile::proofs::Finding::no_nine, workfile::proofs::Finding::word_at, workfile::proofs::Finding::value_at, workfile::proofs::Finding::no_thirteen, workfile::proofs::Finding::end_at, workfile::proofs::Finding::no_kind))]
 pub fn record_at(file: &[u8], at: usize) -> FileRecord
     requires { at ≤ length file.now }
     ensures { result ≡ record_at file.now at }
@@ -27,32 +28,21 @@ pub fn record_at(file: &[u8], at: usize) -> FileRecord
     if left < 9 {
         return FileRecord::Nothing;
     }
-    let kind = file[at];
-    if kind == 0x57 {
-        return FileRecord::Word(eight_bytes(file, at + 1));
-    }
-    if kind == 0x4C {
-        return FileRecord::Value(eight_bytes(file, at + 1));
-    }
-    if left < 13 {
-        return FileRecord::Nothing;
-    }
-    if kind == 0x45 {
-        return FileRecord::ErrorOf(
+    match file[at] {
+        0x57 => FileRecord::Word(eight_bytes(file, at + 1)),
+        0x4C => FileRecord::Value(eight_bytes(file, at + 1)),
+        _ if left < 13 => FileRecord::Nothing,
+        0x45 => FileRecord::ErrorOf(
             false,
             four_bytes(file, at + 1) as usize,
             eight_bytes(file, at + 5),
-        );
-    }
-    if kind == 0x55 {
-        return FileRecord::ErrorOf(
+        ),
+        0x55 => FileRecord::ErrorOf(
             true,
             four_bytes(file, at + 1) as usize,
             eight_bytes(file, at + 5),
-        );
+        ),
+        0x5A => FileRecord::End(four_bytes(file, at + 1) as usize, eight_bytes(file, at + 5)),
+        _ => FileRecord::Nothing,
     }
-    if kind == 0x5A {
-        return FileRecord::End(four_bytes(file, at + 1) as usize, eight_bytes(file, at + 5));
-    }
-    FileRecord::Nothing
 }

@@ -6,11 +6,10 @@ use native.Mathlib.Omega.{arith}
 use lib.ListN.{length}
 use Rattle.terms.specs.Outcome.{accepted, after}
 use Rattle.terms.proofs.Outcomes.{Gives}
-use Rattle.records.proofs.Judging.{clash}
 use Rattle.workfile.specs.Content.{Content}
 use Rattle.entry.specs.declared.Notation.TheVariants.{Programmes}
 use Rattle.notation.specs.Contents.{Reading, says, text_of}
-use Rattle.notation.proofs.Laws.{text_counts}
+use Rattle.notation.proofs.Laws.{said_once, text_counts}
 use Rattle.divided.specs.Divided.{divided_of}
 use Rattle.divided.proofs.Laws.{counts_add}
 use Rattle.draw.specs.Row.{ones}
@@ -24,21 +23,12 @@ use Rattle.handout.specs.Lines.{answers_text}
 use Rattle.handout.specs.Handout.{handout_of, handout_text}
 use Rattle.handout.proofs.Laws.{Figured, figured, starts_accepted, parted_numbers, parted_gives}
 use Rattle.handout.proofs.Marks.{lines_in, marks_in, sheet_marks}
-use Rattle.reply.specs.Reply.{onward, content_reply, reply_of, reply_says, ReplyPromise}
-use Rattle.reply.specs.declared.ReplyAnswer.{ReplyAnswer}
-use Rattle.reply.specs.declared.ReplyAnswer.TheVariants.{Printed, Faulty}
+use Rattle.reply.specs.Reply.{onward, content_reply, reply_of, ReplyPromise}
+use Rattle.std.specs.Prelude.{Result}
+use Rattle.notation.specs.declared.Fault.{Fault}
 
 -- any two results that keep the promise agree
-said_once : (r s : ReplyAnswer) → reply_says r ≡ reply_says s → r ≡ s
-said_once (Printed a) (Printed b) e = let same : a ≡ b = cc in ap Printed same
-said_once (Faulty a) (Faulty b) e =
-    let lines : a.line ≡ b.line = cc in
-    let wrongs : a.wrong ≡ b.wrong = cc in
-    λ i. Faulty (record { line = lines i; wrong = wrongs i })
-said_once (Printed a) (Faulty b) e = clash (cc)
-said_once (Faulty a) (Printed b) e = clash (cc)
-
-pub reply_once : {o : Reading (List ℕ)} {page page₁ page₂ : List ℕ} {r₁ r₂ : ReplyAnswer} → ReplyPromise o page r₁ page₁ → ReplyPromise o page r₂ page₂ → (r₁ ≡ r₂) × (page₁ ≡ page₂)
+pub reply_once : {o : Reading (List ℕ)} {page page₁ page₂ : List ℕ} {r₁ r₂ : Result ℕ Fault} → ReplyPromise o page r₁ page₁ → ReplyPromise o page r₂ page₂ → (r₁ ≡ r₂) × (page₁ ≡ page₂)
 reply_once {r₁ = r₁} {r₂ = r₂} p q = (said_once r₁ r₂ (p.answer ∙ sym q.answer), p.page_left ∙ sym q.page_left)
 
 -- a text without fault, with its content and the line counts of its strata
@@ -79,7 +69,7 @@ module _ (text : List ℕ) (c : Content) (counts : List ℕ) (h : Holds text c c
         ap (after (λ (rows : List Row). accepted (ones (strata_marks (parts_of counts c.values) rows (starts_in found.chosen)))))
         (starts_accepted c.plan.ae counts c.words c.values found.rows found.chosen found.plan found.started)
 
-    pub printed_as_drawn : marks_in (lines_in 0 (parts_of counts c.values) a.rows a.starts (parts_of counts c.errors)) ≡ marks
+    pub printed_as_drawn : marks_in (lines_in 0 (parts_of counts c.values) a.plan.rows a.chosen.starts (parts_of counts c.errors)) ≡ marks
     printed_as_drawn =
-        (λ i. marks_in (lines_in 0 (parts_of counts c.values) (found.answers i).rows (found.answers i).starts (parts_of counts c.errors)))
+        (λ i. marks_in (lines_in 0 (parts_of counts c.values) (found.answers i).plan.rows (found.answers i).chosen.starts (parts_of counts c.errors)))
         ∙ sheet_marks (parts_of counts c.values) found.rows (starts_in found.chosen) (parts_of counts c.errors)

@@ -1,11 +1,11 @@
 -- What is replied to a text of a ledger in strata: its sheet, or its first fault. Definitions: nothing is assumed.
-use Rattle.std.specs.Prelude.{ℕ, ◌≤◌, ◌≡◌, List, ◌++◌, ℤ, length, drop}
+use Rattle.std.specs.Prelude.{ℕ, ◌≤◌, ◌≡◌, List, ◌++◌, ℤ, length, drop, Result}
 use Rattle.workfile.specs.Content.{Content, most_file_lines}
 use Rattle.entry.specs.declared.Notation.{Notation}
-use Rattle.notation.specs.Contents.{Reading, says, faulty, text_of}
+use Rattle.notation.specs.Contents.{Reading, says, faulty, reads, text_of}
 use Rattle.divided.specs.Divided.{divided_of}
 use Rattle.handout.specs.Handout.{handout_text}
-use Rattle.reply.specs.declared.ReplyAnswer.{ReplyAnswer}
+use Rattle.notation.specs.declared.Fault.{Fault}
 
 -- what follows from a reading; a fault is a fault of what follows too
 abbrev pub onward : {A B : Type 0} → (A → Reading B) → Reading A → Reading B
@@ -26,19 +26,14 @@ reply_of text = onward (λ (c : Content). content_reply c.plan.ae c.words c.valu
 abbrev pub longest_reply : ℕ
 longest_reply = 195624
 
--- what an answer says: how long the sheet is, or what is wrong and in which line
-abbrev pub reply_says : ReplyAnswer → Reading ℕ
-reply_says (ReplyAnswer.Printed bytes) = says bytes
-reply_says (ReplyAnswer.Faulty fault) = faulty fault.wrong fault.line
-
 -- the page afterwards: the sheet laid over it; a fault leaves what was there
 abbrev pub page_with : List ℕ → Reading (List ℕ) → List ℕ
 page_with page (says sheet) = sheet ++ drop (length sheet) page
 page_with page (faulty wrong line) = page
 
--- what is promised of a reply
-pub record ReplyPromise (o : Reading (List ℕ)) (page : List ℕ) (r : ReplyAnswer) (page' : List ℕ) : Type 0 where
-  pub answer : reply_says r ≡ onward (λ sheet. says (length sheet)) o
+-- what is promised of a reply: the answer is how long the sheet is, or what is wrong and in which line
+pub record ReplyPromise (o : Reading (List ℕ)) (page : List ℕ) (r : Result ℕ Fault) (page' : List ℕ) : Type 0 where
+  pub answer : reads r ≡ onward (λ sheet. says (length sheet)) o
   pub page_left : page' ≡ page_with page o
 
 -- a content of no more lines than a text may have, and a page that holds every sheet

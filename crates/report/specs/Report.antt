@@ -1,5 +1,5 @@
 -- What a salvage did as text: one line, each figure after its word, those of an old Z last where there is one. Definitions: nothing is assumed.
-use Rattle.std.specs.Prelude.{ℕ, ◌≤◌, List, [], ◌∷◌, ◌++◌, map, length}
+use Rattle.std.specs.Prelude.{ℕ, ◌≤◌, List, [], ◌∷◌, ◌++◌, map, length, Option, Some, None}
 use Rattle.terms.specs.Outcome.{Outcome}
 use Rattle.pen.specs.Letters.{letters}
 use Rattle.pen.specs.Text.{decimal, line}
@@ -12,9 +12,9 @@ unfoldable pub named : List ℕ → ℕ → List ℕ
 named word figure = word ++ (32 ∷ decimal figure)
 
 -- the figures of an old Z, and the end of the line
-unfoldable pub old_text : OldEnd → List ℕ
-old_text (OldEnd.Stands count sum) = line (letters " old" ∷ map decimal (count ∷ sum ∷ []))
-old_text OldEnd.Missing = 10 ∷ []
+unfoldable pub old_text : Option OldEnd → List ℕ
+old_text (Some z) = line (letters " old" ∷ map decimal (z.count ∷ z.sum ∷ []))
+old_text None = 10 ∷ []
 
 -- the records kept and the bytes dropped; the new count and sum
 unfoldable pub kept_text : ℕ → ℕ → List ℕ

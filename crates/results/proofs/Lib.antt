@@ -1,7 +1,5 @@
 -- What the proofs of several functions use, and worked cases.
 pub mod Refused
 pub mod Handed
-mod Mended
 mod Rows
-mod Shown
 pub mod Worked

@@ -1,22 +1,22 @@
 -- What C sees of the salvage: an old Z by a number and its figures, all 0 where there is none. Definitions: nothing is assumed.
-use Rattle.std.specs.Prelude.{ℕ}
+use Rattle.std.specs.Prelude.{ℕ, Option, Some, None}
 use Rattle.terms.specs.Outcome.{Outcome}
 use Rattle.salvaging.specs.declared.{OldEnd.OldEnd, Salvaged.Salvaged}
 use Rattle.results.specs.declared.SalvageResult.{SalvageResult}
 use Rattle.results.specs.Seen.{number_seen, place_seen, seen}
 
 -- whether there is an old Z, its count and its sum
-unfoldable pub old_there : OldEnd → ℕ
-old_there (OldEnd.Stands count sum) = 1
-old_there OldEnd.Missing = 0
+unfoldable pub old_there : Option OldEnd → ℕ
+old_there (Some end) = 1
+old_there None = 0
 
-unfoldable pub old_count : OldEnd → ℕ
-old_count (OldEnd.Stands count sum) = count
-old_count OldEnd.Missing = 0
+unfoldable pub old_count : Option OldEnd → ℕ
+old_count (Some end) = end.count
+old_count None = 0
 
-unfoldable pub old_sum : OldEnd → ℕ
-old_sum (OldEnd.Stands count sum) = sum
-old_sum OldEnd.Missing = 0
+unfoldable pub old_sum : Option OldEnd → ℕ
+old_sum (Some end) = end.sum
+old_sum None = 0
 
 abbrev pub salvage_seen : Outcome Salvaged → SalvageResult
 salvage_seen o =

@@ -1,14 +1,12 @@
--- What each export by strata returns, from its operation's answer: the rows of a refused call are 0 in the answer itself. Definitions: nothing is assumed.
-use Rattle.std.specs.Prelude.{ℕ, map}
-use Rattle.terms.specs.Outcome.{Outcome}
+-- What each export by strata returns, from what its operation says; the rows of a refused call are 0. Definitions: nothing is assumed.
+use Rattle.std.specs.Prelude.{ℕ, [], map}
+use Rattle.terms.specs.Outcome.{Outcome, left}
 use Rattle.strata.specs.declared.{Row.Row, Planned.Planned}
-use Rattle.strata.specs.Strata.{strata_says}
+use Rattle.strata.specs.Strata.{plan_with}
+use Rattle.stratified.specs.Projection.{sums_with}
 use Rattle.stratified.specs.declared.{projection.ProjectionRow.ProjectionRow, projection.ProjectedStrata.ProjectedStrata}
 use Rattle.results.specs.Seen.{number_seen, place_seen, seen}
-use Rattle.results.specs.declared.{by_strata.Head.Head, StratumPlan.StratumPlan, StrataPlanResult.StrataPlanResult, StrataDrawResult.StrataDrawResult, StratumProjection.StratumProjection, StrataProjectResult.StrataProjectResult}
-
-abbrev pub head_seen : Outcome ℕ → Head
-head_seen o = record { refusal = number_seen o; place = place_seen o; strata = seen (λ strata. strata) o }
+use Rattle.results.specs.declared.{StratumPlan.StratumPlan, StrataPlanResult.StrataPlanResult, StrataDrawResult.StrataDrawResult, StratumProjection.StratumProjection, StrataProjectResult.StrataProjectResult}
 
 -- a row of the plan
 abbrev pub stratum_plan_seen : Row → StratumPlan
@@ -22,14 +20,12 @@ stratum_plan_seen row =
       full_total = row.figures.full_total;
     }
 
-abbrev pub strata_plan_seen : Planned → StrataPlanResult
-strata_plan_seen plan =
-    record {
-      refusal = number_seen (strata_says plan.answer);
-      place = place_seen (strata_says plan.answer);
-      strata = seen (λ strata. strata) (strata_says plan.answer);
-      stratum = map stratum_plan_seen plan.rows;
-    }
+-- the plan, or no strata and no row where it is refused
+abbrev pub plan_left : Outcome Planned → Planned
+plan_left o = left (λ plan. plan) (plan_with []) o
+
+abbrev pub strata_plan_seen : Outcome Planned → StrataPlanResult
+strata_plan_seen o = record { refusal = number_seen o; place = place_seen o; strata = (plan_left o).strata; stratum = map stratum_plan_seen (plan_left o).rows }
 
 abbrev pub strata_draw_seen : Outcome ℕ → StrataDrawResult
 strata_draw_seen o = record { refusal = number_seen o; place = place_seen o; drawn = seen (λ drawn. drawn) o }
@@ -46,14 +42,18 @@ stratum_projection_seen row =
       under_sampled = row.under_sampled;
     }
 
-abbrev pub strata_project_seen : ProjectedStrata → StrataProjectResult
-strata_project_seen projected =
+-- the projection, or no strata and no row where it is refused
+abbrev pub projected_left : Outcome ProjectedStrata → ProjectedStrata
+projected_left o = left (λ projected. projected) (sums_with []) o
+
+abbrev pub strata_project_seen : Outcome ProjectedStrata → StrataProjectResult
+strata_project_seen o =
     record {
-      refusal = number_seen (strata_says projected.answer);
-      place = place_seen (strata_says projected.answer);
-      over = projected.over;
-      under = projected.under;
-      net = projected.net;
-      strata = seen (λ strata. strata) (strata_says projected.answer);
-      stratum = map stratum_projection_seen projected.rows;
+      refusal = number_seen o;
+      place = place_seen o;
+      over = (projected_left o).over;
+      under = (projected_left o).under;
+      net = (projected_left o).net;
+      strata = (projected_left o).strata;
+      stratum = map stratum_projection_seen (projected_left o).rows;
     }

@@ -1,144 +1,111 @@
-// The answers of the operations by strata, as C sees them. Rows that an answer does not have are 0 in the answer itself.
+// The answers of the operations by strata, as C sees them.
 ghost use Rattle.std.specs.Prelude.{◌≡◌, map};
-ghost use Rattle.draw.specs.Draw.{draw_says};
-ghost use Rattle.strata.specs.Strata.{strata_says};
-ghost use Rattle.results.specs.Strata.{head_seen, stratum_plan_seen, strata_plan_seen, strata_draw_seen, stratum_projection_seen, strata_project_seen};
+ghost use Rattle.terms.specs.Outcome.{says};
+ghost use Rattle.results.specs.Strata.{stratum_plan_seen, strata_plan_seen, strata_draw_seen, stratum_projection_seen, strata_project_seen};
 
 use crate::{
-    StrataDrawResult, StrataPlanResult, StrataProjectResult, StratumPlan, StratumProjection,
+    StrataDrawResult, StrataPlanResult, StrataProjectResult, StratumPlan, StratumProjection, head,
 };
-use draw::DrawAnswer;
-use strata::{Planned, Row, StrataAnswer};
+use strata::{Planned, Row};
 use stratified::projection::{ProjectedStrata, ProjectionRow};
+use terms::{Refusal, Told};
 
-// What is seen before the rows: a refusal's number and place, or how many strata there are.
-#[derive(Clone, Copy)]
-struct Head {
-    refusal: u64,
-    place: u64,
-    strata: u64,
-}
+impl From<Row> for StratumPlan {
+    ghost from_gives = { λ row r. r ≡ stratum_plan_seen row };
 
-fn head_of(answer: StrataAnswer) -> Head
-    ensures { result ≡ head_seen (strata_says answer) }
-{
-    match answer {
-        StrataAnswer::Refused(why) => {
-            let told = terms::tell(why);
-            Head {
-                refusal: told.number,
-                place: told.place,
-                strata: 0,
-            }
+    fn from(row: Row) -> StratumPlan {
+        StratumPlan {
+            draws: row.draws,
+            interval: row.figures.interval,
+            draws_left: row.figures.draws_left,
+            sampled_total: row.figures.sampled_total,
+            full_lines: row.figures.full_lines,
+            full_total: row.figures.full_total,
         }
-        StrataAnswer::Strata(strata) => Head {
-            refusal: 0,
-            place: 0,
-            strata,
-        },
     }
 }
 
-fn of_row(row: Row) -> StratumPlan
-    ensures { result ≡ stratum_plan_seen row }
-{
-    let figures = row.figures;
-    StratumPlan {
-        draws: row.draws,
-        interval: figures.interval,
-        draws_left: figures.draws_left,
-        sampled_total: figures.sampled_total,
-        full_lines: figures.full_lines,
-        full_total: figures.full_total,
-    }
-}
-
+// The rows, as C is given them: an array of its own structs, all 32.
+#[tactic(auto, using(crate::proofs::Rows::showing_none, crate::proofs::Rows::showing_next, crate::proofs::Rows::showing_end))]
 fn of_rows(rows: [Row; 32]) -> [StratumPlan; 32]
     ensures { result ≡ map stratum_plan_seen rows }
 {
-    let first = of_row(rows[0]);
-    let mut stratum = [first; 32];
-    let mut h: usize = 0;
-    while h < 32 {
-        stratum[h] = of_row(rows[h]);
-        h += 1;
+    let mut shown = [StratumPlan::from(rows[0]); 32];
+    for (h, row) in rows.iter().enumerate() {
+        shown[h] = StratumPlan::from(*row);
     }
-    stratum
+    shown
 }
 
-pub fn of_strata_plan(plan: Planned) -> StrataPlanResult
-    ensures { result ≡ strata_plan_seen plan }
-{
-    let answer = plan.answer;
-    let rows = plan.rows;
-    let head = head_of(answer);
-    StrataPlanResult {
-        refusal: head.refusal,
-        place: head.place,
-        strata: head.strata,
-        stratum: of_rows(rows),
-    }
-}
+impl From<ProjectionRow> for StratumProjection {
+    ghost from_gives = { λ row r. r ≡ stratum_projection_seen row };
 
-pub fn of_strata_draw(answer: DrawAnswer) -> StrataDrawResult
-    ensures { result ≡ strata_draw_seen (draw_says answer) }
-{
-    match answer {
-        DrawAnswer::Refused(why) => {
-            let told = terms::tell(why);
-            StrataDrawResult {
-                refusal: told.number,
-                place: told.place,
-                drawn: 0,
-            }
+    fn from(row: ProjectionRow) -> StratumProjection {
+        StratumProjection {
+            draws: row.draws,
+            interval: row.interval,
+            full: row.full,
+            sampled: row.sampled,
+            under_full: row.under_full,
+            under_sampled: row.under_sampled,
         }
-        DrawAnswer::Drawn(drawn) => StrataDrawResult {
-            refusal: 0,
-            place: 0,
-            drawn,
-        },
     }
 }
 
-fn of_projection(row: ProjectionRow) -> StratumProjection
-    ensures { result ≡ stratum_projection_seen row }
-{
-    StratumProjection {
-        draws: row.draws,
-        interval: row.interval,
-        full: row.full,
-        sampled: row.sampled,
-        under_full: row.under_full,
-        under_sampled: row.under_sampled,
-    }
-}
-
+// The same for a projection's rows.
+#[tactic(auto, using(crate::proofs::Rows::showing_none, crate::proofs::Rows::showing_next, crate::proofs::Rows::showing_end))]
 fn of_projections(rows: [ProjectionRow; 32]) -> [StratumProjection; 32]
     ensures { result ≡ map stratum_projection_seen rows }
 {
-    let first = of_projection(rows[0]);
-    let mut stratum = [first; 32];
-    let mut h: usize = 0;
-    while h < 32 {
-        stratum[h] = of_projection(rows[h]);
-        h += 1;
+    let mut shown = [StratumProjection::from(rows[0]); 32];
+    for (h, row) in rows.iter().enumerate() {
+        shown[h] = StratumProjection::from(*row);
     }
-    stratum
+    shown
 }
 
-pub fn of_strata_project(projected: ProjectedStrata) -> StrataProjectResult
-    ensures { result ≡ strata_project_seen projected }
-{
-    let answer = projected.answer;
-    let rows = projected.rows;
-    let head = head_of(answer);
-    StrataProjectResult {
-        refusal: head.refusal,
-        place: head.place,
-        over: projected.over,
-        under: projected.under,
-        net: projected.net,
-        strata: head.strata,
-        stratum: of_projections(rows),
+impl From<Result<Planned, Refusal>> for StrataPlanResult {
+    ghost from_gives = { λ answer r. r ≡ strata_plan_seen (says answer) };
+
+    fn from(answer: Result<Planned, Refusal>) -> StrataPlanResult {
+        let Told { number, place } = head(answer);
+        let planned = strata::plan_or_none(answer);
+        StrataPlanResult {
+            refusal: number,
+            place,
+            strata: planned.strata,
+            stratum: of_rows(planned.rows),
+        }
+    }
+}
+
+impl From<Result<u64, Refusal>> for StrataDrawResult {
+    ghost from_gives = { λ answer r. r ≡ strata_draw_seen (says answer) };
+
+    fn from(answer: Result<u64, Refusal>) -> StrataDrawResult {
+        let Told { number, place } = head(answer);
+        StrataDrawResult {
+            refusal: number,
+            place,
+            drawn: answer.unwrap_or(0),
+        }
+    }
+}
+
+impl From<Result<ProjectedStrata, Refusal>> for StrataProjectResult {
+    ghost from_gives = { λ answer r. r ≡ strata_project_seen (says answer) };
+
+    fn from(answer: Result<ProjectedStrata, Refusal>) -> StrataProjectResult {
+        let Told { number, place } = head(answer);
+        let projected = stratified::projection::projected_or_none(answer);
+        StrataProjectResult {
+            refusal: number,
+            place,
+            over: projected.over,
+            under: projected.under,
+            net: projected.net,
+            strata: projected.strata,
+            stratum: of_projections(projected.rows),
+        }
     }
 }

@@ -1,47 +1,33 @@
 // The answers of the attribute job aid for control tests, as C sees them.
 ghost use Rattle.std.specs.Prelude.{◌≡◌};
-ghost use Rattle.attributes.specs.Attributes.{items_says, bound_says};
+ghost use Rattle.terms.specs.Outcome.{says};
 ghost use Rattle.results.specs.Control.{items_seen, bound_seen};
 
-use crate::{AttributeBoundResult, AttributeSizeResult};
-use attributes::{BoundAnswer, ItemsAnswer};
+use crate::{AttributeBoundResult, AttributeSizeResult, head};
+use terms::{Refusal, Told};
 
-pub fn of_items(answer: ItemsAnswer) -> AttributeSizeResult
-    ensures { result ≡ items_seen (items_says answer) }
-{
-    match answer {
-        ItemsAnswer::Refused(why) => {
-            let told = terms::tell(why);
-            AttributeSizeResult {
-                refusal: told.number,
-                place: told.place,
-                items: 0,
-            }
+impl From<Result<u64, Refusal>> for AttributeSizeResult {
+    ghost from_gives = { λ answer r. r ≡ items_seen (says answer) };
+
+    fn from(answer: Result<u64, Refusal>) -> AttributeSizeResult {
+        let Told { number, place } = head(answer);
+        AttributeSizeResult {
+            refusal: number,
+            place,
+            items: answer.unwrap_or(0),
         }
-        ItemsAnswer::Items(items) => AttributeSizeResult {
-            refusal: 0,
-            place: 0,
-            items,
-        },
     }
 }
 
-pub fn of_bound(answer: BoundAnswer) -> AttributeBoundResult
-    ensures { result ≡ bound_seen (bound_says answer) }
-{
-    match answer {
-        BoundAnswer::Refused(why) => {
-            let told = terms::tell(why);
-            AttributeBoundResult {
-                refusal: told.number,
-                place: told.place,
-                hundredths: 0,
-            }
+impl From<Result<u64, Refusal>> for AttributeBoundResult {
+    ghost from_gives = { λ answer r. r ≡ bound_seen (says answer) };
+
+    fn from(answer: Result<u64, Refusal>) -> AttributeBoundResult {
+        let Told { number, place } = head(answer);
+        AttributeBoundResult {
+            refusal: number,
+            place,
+            hundredths: answer.unwrap_or(0),
         }
-        BoundAnswer::Hundredths(hundredths) => AttributeBoundResult {
-            refusal: 0,
-            place: 0,
-            hundredths,
-        },
     }
 }

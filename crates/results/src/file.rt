@@ -1,80 +1,60 @@
 // The answers of the reader, the writer and the sheet, as C sees them.
 ghost use Rattle.std.specs.Prelude.{◌≡◌};
-ghost use Rattle.workfile.specs.Promises.{read_says, write_says};
-ghost use Rattle.sheet.specs.Sheet.{sheet_says};
+ghost use Rattle.terms.specs.Outcome.{says};
 ghost use Rattle.results.specs.Results.{read_seen, write_seen, sheet_seen};
 
-use crate::{ReadResult, SheetResult, WriteResult};
-use sheet::SheetAnswer;
-use workfile::{ReadAnswer, WriteAnswer};
+use crate::{ReadResult, SheetResult, WriteResult, head};
+use terms::{Refusal, Told};
+use workfile::Contents;
 
-pub fn of_read(answer: ReadAnswer) -> ReadResult
-    ensures { result ≡ read_seen (read_says answer) }
-{
-    match answer {
-        ReadAnswer::Refused(why) => {
-            let told = terms::tell(why);
-            ReadResult {
-                refusal: told.number,
-                place: told.place,
-                level: 0,
-                te: 0,
-                ae: 0,
-                words: 0,
-                lines: 0,
-            }
-        }
-        ReadAnswer::Read(contents) => {
-            let level = contents.level as u64;
-            ReadResult {
-                refusal: 0,
-                place: 0,
-                level,
-                te: contents.te,
-                ae: contents.ae,
-                words: contents.words,
-                lines: contents.lines,
-            }
+const NO_CONTENTS: Contents = Contents {
+    level: 0,
+    te: 0,
+    ae: 0,
+    words: 0,
+    lines: 0,
+};
+
+impl From<Result<Contents, Refusal>> for ReadResult {
+    ghost from_gives = { λ answer r. r ≡ read_seen (says answer) };
+
+    fn from(answer: Result<Contents, Refusal>) -> ReadResult {
+        let Told { number, place } = head(answer);
+        let contents = answer.unwrap_or(NO_CONTENTS);
+        ReadResult {
+            refusal: number,
+            place,
+            level: contents.level as u64,
+            te: contents.te,
+            ae: contents.ae,
+            words: contents.words,
+            lines: contents.lines,
         }
     }
 }
 
-pub fn of_write(answer: WriteAnswer) -> WriteResult
-    ensures { result ≡ write_seen (write_says answer) }
-{
-    match answer {
-        WriteAnswer::Refused(why) => {
-            let told = terms::tell(why);
-            WriteResult {
-                refusal: told.number,
-                place: told.place,
-                length: 0,
-            }
+impl From<Result<u64, Refusal>> for WriteResult {
+    ghost from_gives = { λ answer r. r ≡ write_seen (says answer) };
+
+    fn from(written: Result<u64, Refusal>) -> WriteResult {
+        let Told { number, place } = head(written);
+        WriteResult {
+            refusal: number,
+            place,
+            length: written.unwrap_or(0),
         }
-        WriteAnswer::Written(written) => WriteResult {
-            refusal: 0,
-            place: 0,
-            length: written,
-        },
     }
 }
 
-pub fn of_sheet(answer: SheetAnswer) -> SheetResult
-    ensures { result ≡ sheet_seen (sheet_says answer) }
-{
-    match answer {
-        SheetAnswer::Refused(why) => {
-            let told = terms::tell(why);
-            SheetResult {
-                refusal: told.number,
-                place: told.place,
-                length: 0,
-            }
+impl From<Result<u64, Refusal>> for SheetResult {
+    ghost from_gives = { λ answer r. r ≡ sheet_seen (says answer) };
+
+    fn from(printed: Result<u64, Refusal>) -> SheetResult {
+        let Told { number, place } = head(printed);
+        SheetResult {
+            refusal: number,
+            place,
+            length: printed.unwrap_or(0),
         }
-        SheetAnswer::Printed(printed) => SheetResult {
-            refusal: 0,
-            place: 0,
-            length: printed,
-        },
     }
 }

@@ -2,17 +2,36 @@
 // figures, 0 where it is refused.
 #![tactic(auto)]
 
-use season::Tally;
+ghost use Rattle.std.specs.Prelude.{◌≡◌};
+ghost use Rattle.terms.specs.Outcome.{says};
+ghost use Rattle.results.specs.Seen.{number_seen, place_seen};
 
-pub mod board; // board.rt: answers of the blackboard method
-pub mod by_strata; // by_strata.rt: answers of the operations by strata
-pub mod control; // control.rt: answers of the attribute job aid
-pub mod file; // file.rt: answers of the working file and its sheet
-pub mod method; // method.rt: answers of the steps of the method
-pub mod posting; // posting.rt: answers of posting findings
-pub mod salvage; // salvage.rt: the answer of the salvage
-pub mod summary; // summary.rt: answers of the totals beside the ledger
+use season::Tally;
+use terms::{Refusal, Told};
+
+mod board; // board.rt: answers of the blackboard method
+mod by_strata; // by_strata.rt: answers of the operations by strata
+mod control; // control.rt: answers of the attribute job aid
+mod file; // file.rt: answers of the working file and its sheet
+mod method; // method.rt: answers of the steps of the method
+mod posting; // posting.rt: answers of posting findings
+mod salvage; // salvage.rt: the answer of the salvage
+mod summary; // summary.rt: answers of the totals beside the ledger
 pub mod tally; // tally.rt: the tally of a season
+
+// What C sees first of an answer: its refusal's number and place, both 0 where the call is accepted.
+fn head<T: Copy>(answer: Result<T, Refusal>) -> Told
+    ensures number { result.number ≡ number_seen (says answer) }
+    ensures place { result.place ≡ place_seen (says answer) }
+{
+    match answer {
+        Ok(_) => Told {
+            number: 0,
+            place: 0,
+        },
+        Err(why) => why.tell(),
+    }
+}
 
 #[repr(C)]
 #[derive(Clone, Copy)]

@@ -1,142 +1,114 @@
 // The answers of the steps, as C sees them.
 ghost use Rattle.std.specs.Prelude.{◌≡◌};
-ghost use Rattle.size.specs.Size.{size_says};
-ghost use Rattle.split.specs.Split.{split_says};
-ghost use Rattle.start.specs.Start.{start_says};
-ghost use Rattle.draw.specs.Draw.{draw_says};
-ghost use Rattle.project.specs.Project.{project_says};
-ghost use Rattle.judge.specs.Judge.{judge_says};
+ghost use Rattle.terms.specs.Outcome.{says};
 ghost use Rattle.results.specs.Results.{size_seen, split_seen, start_seen, draw_seen, project_seen, verdict_number, judge_seen};
 
-use crate::{DrawResult, JudgeResult, ProjectResult, SizeResult, SplitResult, StartResult};
-use draw::DrawAnswer;
-use judge::{JudgeAnswer, Verdict};
-use project::ProjectAnswer;
-use size::SizeAnswer;
-use split::SplitAnswer;
-use start::StartAnswer;
+use crate::{DrawResult, JudgeResult, ProjectResult, SizeResult, SplitResult, StartResult, head};
+use judge::{Judgement, Verdict};
+use project::Projection;
+use split::Figures;
+use start::Chosen;
+use terms::{Refusal, Told};
 
-pub fn of_size(answer: SizeAnswer) -> SizeResult
-    ensures { result ≡ size_seen (size_says answer) }
-{
-    match answer {
-        SizeAnswer::Refused(why) => {
-            let told = terms::tell(why);
-            SizeResult {
-                refusal: told.number,
-                place: told.place,
-                draws: 0,
-            }
+impl From<Result<u64, Refusal>> for SizeResult {
+    ghost from_gives = { λ answer r. r ≡ size_seen (says answer) };
+
+    fn from(answer: Result<u64, Refusal>) -> SizeResult {
+        let Told { number, place } = head(answer);
+        SizeResult {
+            refusal: number,
+            place,
+            draws: answer.unwrap_or(0),
         }
-        SizeAnswer::Draws(draws) => SizeResult {
-            refusal: 0,
-            place: 0,
-            draws,
-        },
     }
 }
 
-pub fn of_split(answer: SplitAnswer) -> SplitResult
-    ensures { result ≡ split_seen (split_says answer) }
-{
-    match answer {
-        SplitAnswer::Refused(why) => {
-            let told = terms::tell(why);
-            SplitResult {
-                refusal: told.number,
-                place: told.place,
-                interval: 0,
-                draws_left: 0,
-                sampled_total: 0,
-                full_lines: 0,
-                full_total: 0,
-            }
-        }
-        SplitAnswer::Split(figures) => SplitResult {
-            refusal: 0,
-            place: 0,
+const NO_FIGURES: Figures = Figures {
+    interval: 0,
+    draws_left: 0,
+    sampled_total: 0,
+    full_lines: 0,
+    full_total: 0,
+};
+
+impl From<Result<Figures, Refusal>> for SplitResult {
+    ghost from_gives = { λ answer r. r ≡ split_seen (says answer) };
+
+    fn from(answer: Result<Figures, Refusal>) -> SplitResult {
+        let Told { number, place } = head(answer);
+        let figures = answer.unwrap_or(NO_FIGURES);
+        SplitResult {
+            refusal: number,
+            place,
             interval: figures.interval,
             draws_left: figures.draws_left,
             sampled_total: figures.sampled_total,
             full_lines: figures.full_lines,
             full_total: figures.full_total,
-        },
+        }
     }
 }
 
-pub fn of_start(answer: StartAnswer) -> StartResult
-    ensures { result ≡ start_seen (start_says answer) }
-{
-    match answer {
-        StartAnswer::Refused(why) => {
-            let told = terms::tell(why);
-            StartResult {
-                refusal: told.number,
-                place: told.place,
-                start: 0,
-                words: 0,
-            }
-        }
-        StartAnswer::Started(chosen) => StartResult {
-            refusal: 0,
-            place: 0,
+const NO_START: Chosen = Chosen { start: 0, words: 0 };
+
+impl From<Result<Chosen, Refusal>> for StartResult {
+    ghost from_gives = { λ answer r. r ≡ start_seen (says answer) };
+
+    fn from(answer: Result<Chosen, Refusal>) -> StartResult {
+        let Told { number, place } = head(answer);
+        let chosen = answer.unwrap_or(NO_START);
+        StartResult {
+            refusal: number,
+            place,
             start: chosen.start,
             words: chosen.words,
-        },
+        }
     }
 }
 
-pub fn of_draw(answer: DrawAnswer) -> DrawResult
-    ensures { result ≡ draw_seen (draw_says answer) }
-{
-    match answer {
-        DrawAnswer::Refused(why) => {
-            let told = terms::tell(why);
-            DrawResult {
-                refusal: told.number,
-                place: told.place,
-                drawn: 0,
-            }
+impl From<Result<u64, Refusal>> for DrawResult {
+    ghost from_gives = { λ answer r. r ≡ draw_seen (says answer) };
+
+    fn from(answer: Result<u64, Refusal>) -> DrawResult {
+        let Told { number, place } = head(answer);
+        DrawResult {
+            refusal: number,
+            place,
+            drawn: answer.unwrap_or(0),
         }
-        DrawAnswer::Drawn(drawn) => DrawResult {
-            refusal: 0,
-            place: 0,
-            drawn,
-        },
     }
 }
 
-pub fn of_project(answer: ProjectAnswer) -> ProjectResult
-    ensures { result ≡ project_seen (project_says answer) }
-{
-    match answer {
-        ProjectAnswer::Refused(why) => {
-            let told = terms::tell(why);
-            ProjectResult {
-                refusal: told.number,
-                place: told.place,
-                full: 0,
-                sampled: 0,
-                m: 0,
-                under_full: 0,
-                under_sampled: 0,
-                net: 0,
-            }
-        }
-        ProjectAnswer::Projected(projection) => ProjectResult {
-            refusal: 0,
-            place: 0,
+const NO_PROJECTION: Projection = Projection {
+    full: 0,
+    sampled: 0,
+    m: 0,
+    under_full: 0,
+    under_sampled: 0,
+    net: 0,
+};
+
+impl From<Result<Projection, Refusal>> for ProjectResult {
+    ghost from_gives = { λ answer r. r ≡ project_seen (says answer) };
+
+    fn from(answer: Result<Projection, Refusal>) -> ProjectResult {
+        let Told { number, place } = head(answer);
+        let projection = answer.unwrap_or(NO_PROJECTION);
+        ProjectResult {
+            refusal: number,
+            place,
             full: projection.full,
             sampled: projection.sampled,
             m: projection.m,
             under_full: projection.under_full,
             under_sampled: projection.under_sampled,
             net: projection.net,
-        },
+        }
     }
 }
 
-// The number of a verdict.
+// The number of a verdict; 0 is none of them.
+#[tactic(auto, unfolding(crate::specs::Results::verdict_number))]
 fn verdict_number(verdict: Verdict) -> u64
     ensures { result ≡ verdict_number verdict }
 {
@@ -147,42 +119,44 @@ fn verdict_number(verdict: Verdict) -> u64
     }
 }
 
-pub fn of_judge(answer: JudgeAnswer) -> JudgeResult
-    ensures { result ≡ judge_seen (judge_says answer) }
-{
-    match answer {
-        JudgeAnswer::Refused(why) => {
-            let told = terms::tell(why);
-            JudgeResult {
-                refusal: told.number,
-                place: told.place,
-                full: 0,
-                sampled: 0,
-                m: 0,
-                under_full: 0,
-                under_sampled: 0,
-                net: 0,
-                precision: 0,
-                upper_limit: 0,
-                verdict: 0,
-            }
-        }
-        JudgeAnswer::Judged(judgement) => {
-            let projection = judgement.projection;
-            let verdict = judgement.verdict;
-            JudgeResult {
-                refusal: 0,
-                place: 0,
-                full: projection.full,
-                sampled: projection.sampled,
-                m: projection.m,
-                under_full: projection.under_full,
-                under_sampled: projection.under_sampled,
-                net: projection.net,
-                precision: judgement.precision,
-                upper_limit: judgement.upper_limit,
-                verdict: verdict_number(verdict),
-            }
+const NO_JUDGEMENT: JudgeResult = JudgeResult {
+    refusal: 0,
+    place: 0,
+    full: 0,
+    sampled: 0,
+    m: 0,
+    under_full: 0,
+    under_sampled: 0,
+    net: 0,
+    precision: 0,
+    upper_limit: 0,
+    verdict: 0,
+};
+
+impl From<Result<Judgement, Refusal>> for JudgeResult {
+    ghost from_gives = { λ answer r. r ≡ judge_seen (says answer) };
+
+    fn from(answer: Result<Judgement, Refusal>) -> JudgeResult {
+        let Told { number, place } = head(answer);
+        let Ok(judgement) = answer else {
+            return JudgeResult {
+                refusal: number,
+                place,
+                ..NO_JUDGEMENT
+            };
+        };
+        JudgeResult {
+            refusal: 0,
+            place: 0,
+            full: judgement.projection.full,
+            sampled: judgement.projection.sampled,
+            m: judgement.projection.m,
+            under_full: judgement.projection.under_full,
+            under_sampled: judgement.projection.under_sampled,
+            net: judgement.projection.net,
+            precision: judgement.precision,
+            upper_limit: judgement.upper_limit,
+            verdict: verdict_number(judgement.verdict),
         }
     }
 }

@@ -1,27 +1,20 @@
 // The answers of posting findings, singly or by the batch, as C sees them.
 ghost use Rattle.std.specs.Prelude.{◌≡◌};
-ghost use Rattle.findings.specs.Findings.{post_says};
+ghost use Rattle.terms.specs.Outcome.{says};
 ghost use Rattle.results.specs.Findings.{post_seen};
 
-use crate::PostResult;
-use findings::PostAnswer;
+use crate::{PostResult, head};
+use terms::{Refusal, Told};
 
-pub fn of_post(answer: PostAnswer) -> PostResult
-    ensures { result ≡ post_seen (post_says answer) }
-{
-    match answer {
-        PostAnswer::Refused(why) => {
-            let told = terms::tell(why);
-            PostResult {
-                refusal: told.number,
-                place: told.place,
-                posted: 0,
-            }
+impl From<Result<u64, Refusal>> for PostResult {
+    ghost from_gives = { λ answer r. r ≡ post_seen (says answer) };
+
+    fn from(answer: Result<u64, Refusal>) -> PostResult {
+        let Told { number, place } = head(answer);
+        PostResult {
+            refusal: number,
+            place,
+            posted: answer.unwrap_or(0),
         }
-        PostAnswer::Posted(posted) => PostResult {
-            refusal: 0,
-            place: 0,
-            posted,
-        },
     }
 }

@@ -1,64 +1,42 @@
 // The answer of the salvage, as C sees it.
 ghost use Rattle.std.specs.Prelude.{◌≡◌};
-ghost use Rattle.terms.specs.Outcome.{accepted};
-ghost use Rattle.salvaging.specs.Salvage.{salvage_says};
+ghost use Rattle.terms.specs.Outcome.{says};
 ghost use Rattle.results.specs.Salvage.{salvage_seen};
 
-use crate::SalvageResult;
-use salvaging::{OldEnd, SalvageAnswer, Salvaged};
+use crate::{SalvageResult, head};
+use salvaging::{OldEnd, Salvaged};
+use terms::{Refusal, Told};
 
-fn of_salvaged(salvaged: Salvaged) -> SalvageResult
-    ensures { result ≡ salvage_seen (accepted salvaged) }
-{
-    let told = SalvageResult {
-        refusal: 0,
-        place: 0,
-        length: salvaged.length,
-        kept: salvaged.kept,
-        dropped: salvaged.dropped,
-        lines: salvaged.lines,
-        sum: salvaged.sum,
-        old: 0,
-        old_lines: 0,
-        old_sum: 0,
-    };
-    let old = salvaged.old;
-    match old {
-        OldEnd::Missing => told,
-        OldEnd::Stands(count, sum) => SalvageResult {
-            refusal: 0,
-            place: 0,
-            length: told.length,
-            kept: told.kept,
-            dropped: told.dropped,
-            lines: told.lines,
-            sum: told.sum,
-            old: 1,
-            old_lines: count,
-            old_sum: sum,
-        },
-    }
-}
+const NOTHING_SALVAGED: Salvaged = Salvaged {
+    length: 0,
+    kept: 0,
+    dropped: 0,
+    lines: 0,
+    sum: 0,
+    old: None,
+};
 
-pub fn of_salvage(answer: SalvageAnswer) -> SalvageResult
-    ensures { result ≡ salvage_seen (salvage_says answer) }
-{
-    match answer {
-        SalvageAnswer::Refused(why) => {
-            let told = terms::tell(why);
-            SalvageResult {
-                refusal: told.number,
-                place: told.place,
-                length: 0,
-                kept: 0,
-                dropped: 0,
-                lines: 0,
-                sum: 0,
-                old: 0,
-                old_lines: 0,
-                old_sum: 0,
-            }
+const NO_END: OldEnd = OldEnd { count: 0, sum: 0 };
+
+impl From<Result<Salvaged, Refusal>> for SalvageResult {
+    ghost from_gives = { λ answer r. r ≡ salvage_seen (says answer) };
+
+    #[tactic(auto, unfolding(crate::specs::Salvage::old_there, crate::specs::Salvage::old_count, crate::specs::Salvage::old_sum))]
+    fn from(answer: Result<Salvaged, Refusal>) -> SalvageResult {
+        let Told { number, place } = head(answer);
+        let salvaged = answer.unwrap_or(NOTHING_SALVAGED);
+        let end = salvaged.old.unwrap_or(NO_END);
+        SalvageResult {
+            refusal: number,
+            place,
+            length: salvaged.length,
+            kept: salvaged.kept,
+            dropped: salvaged.dropped,
+            lines: salvaged.lines,
+            sum: salvaged.sum,
+            old: salvaged.old.is_some() as u64,
+            old_lines: end.count,
+            old_sum: end.sum,
         }
-        SalvageAnswer::Kept(salvaged) => of_salvaged(salvaged),
     }
 }

@@ -1,16 +1,25 @@
 // The tally of a season, as C hands it in and sees it.
 ghost use Rattle.std.specs.Prelude.{◌≡◌};
 ghost use Rattle.season.specs.Add.{add_of, AddPromise};
-ghost use Rattle.results.specs.Season.{judged_by, entry_from, tally_seen};
+ghost use Rattle.results.specs.Season.{entry_from, tally_seen};
 
-use crate::TallyResult;
+use crate::{TallyResult, head};
 use judge::Verdict;
-use season::{AddAnswer, Entry, HandedBack, Judged, Tally};
+use season::{HandedBack, Judged, Tally};
+use terms::Told;
 
-fn judged(level: u8, book: u64, limit: u64, verdict: Verdict) -> Entry
-    ensures { result ≡ judged_by level book limit verdict }
+// A judgement by its verdict's number: any but 1, 2 and 3 stands for one that was refused.
+#[tactic(auto, unfolding(crate::specs::Season::entry_from))]
+fn entry_from(level: u8, book: u64, limit: u64, verdict: u64) -> Option<Judged>
+    ensures { result ≡ entry_from level book limit verdict }
 {
-    Entry::Judgement(Judged {
+    let verdict = match verdict {
+        1 => Verdict::Below,
+        2 => Verdict::Inconclusive,
+        3 => Verdict::Above,
+        _ => return None,
+    };
+    Some(Judged {
         level,
         book,
         limit,
@@ -18,43 +27,23 @@ fn judged(level: u8, book: u64, limit: u64, verdict: Verdict) -> Entry
     })
 }
 
-// A judgement by its verdict's number: any but 1, 2 and 3 stands for one that was refused.
-fn entry_from(level: u8, book: u64, limit: u64, verdict: u64) -> Entry
-    ensures { result ≡ entry_from level book limit verdict }
-{
-    match verdict {
-        1 => judged(level, book, limit, Verdict::Below),
-        2 => judged(level, book, limit, Verdict::Inconclusive),
-        3 => judged(level, book, limit, Verdict::Above),
-        _ => Entry::NotJudged,
-    }
-}
-
 // That judgement added.
+#[tactic(auto, using(crate::proofs::Handed::added_from))]
 pub fn add(tally: Tally, level: u8, book: u64, limit: u64, verdict: u64) -> HandedBack
     ensures { AddPromise tally (add_of tally (entry_from level book limit verdict)) result }
 {
     tally.add(entry_from(level, book, limit, verdict))
 }
 
-pub fn of_add(handed: HandedBack) -> TallyResult
-    ensures { result ≡ tally_seen handed }
-{
-    let tally = handed.tally;
-    let answer = handed.answer;
-    match answer {
-        AddAnswer::Refused(why) => {
-            let told = terms::tell(why);
-            TallyResult {
-                refusal: told.number,
-                place: told.place,
-                tally,
-            }
+impl From<HandedBack> for TallyResult {
+    ghost from_gives = { λ handed r. r ≡ tally_seen handed };
+
+    fn from(handed: HandedBack) -> TallyResult {
+        let Told { number, place } = head(handed.answer);
+        TallyResult {
+            refusal: number,
+            place,
+            tally: handed.tally,
         }
-        AddAnswer::Added => TallyResult {
-            refusal: 0,
-            place: 0,
-            tally,
-        },
     }
 }

@@ -5,16 +5,16 @@ ghost use Rattle.signed.specs.Errors.{AllHeld};
 ghost use Rattle.workfile.specs.Promises.{plan_with};
 ghost use Rattle.roundtrip.specs.RoundTrip.{WriteThenRead, ReadThenWrite};
 
-use workfile::{ReadAnswer, WriteAnswer};
+use terms::Refusal;
+use workfile::Contents;
 
 // Every error that is lent is a number of 64 bits: reading it says so.
+#[tactic(auto, using(crate::proofs::Trips::none_read, crate::proofs::Trips::one_read, crate::proofs::Trips::all_read))]
 fn read_each(errors: &[i64])
     ensures { AllHeld errors.now }
 {
-    let mut line = 0;
-    while line < errors.len() {
-        signed::size_of(errors[line]);
-        line += 1;
+    for error in errors {
+        signed::size_of(*error);
     }
 }
 
@@ -30,40 +30,39 @@ pub fn write_then_read(
     words_read: &mut [u64; workfile::MOST_WORDS],
     values_read: &mut [u64; workfile::MOST_FILE_LINES],
     errors_read: &mut [i64; workfile::MOST_FILE_LINES],
-) -> ReadAnswer
+) -> Result<Contents, Refusal>
     ensures { WriteThenRead (plan_with level te ae) words.now values.now errors.now file.old words_read.old values_read.old errors_read.old result file.new words_read.new values_read.new errors_read.new }
 {
     read_each(errors);
-    match writer::write(level, te, ae, words, values, errors, file) {
-        WriteAnswer::Refused(why) => ReadAnswer::Refused(why),
-        WriteAnswer::Written(count) => {
-            let length = count as usize;
-            reader::read(&file[..length], words_read, values_read, errors_read)
-        }
-    }
+    let length = writer::write(level, te, ae, words, values, errors, file)?;
+    reader::read(
+        &file[..length as usize],
+        words_read,
+        values_read,
+        errors_read,
+    )
 }
 
 // The content of a file is written again; a refused file changes nothing.
-pub fn read_then_write(file: &[u8], again: &mut [u8; workfile::LONGEST_FILE]) -> WriteAnswer
+pub fn read_then_write(
+    file: &[u8],
+    again: &mut [u8; workfile::LONGEST_FILE],
+) -> Result<u64, Refusal>
     ensures { ReadThenWrite file.now again.old result again.new }
 {
     let mut words = [0u64; workfile::MOST_WORDS];
     let mut values = [0u64; workfile::MOST_FILE_LINES];
     let mut errors = [0i64; workfile::MOST_FILE_LINES];
-    match reader::read(file, &mut words, &mut values, &mut errors) {
-        ReadAnswer::Refused(why) => WriteAnswer::Refused(why),
-        ReadAnswer::Read(contents) => {
-            let count = contents.words as usize;
-            let lines = contents.lines as usize;
-            writer::write(
-                contents.level,
-                contents.te,
-                contents.ae,
-                &words[..count],
-                &values[..lines],
-                &errors[..lines],
-                again,
-            )
-        }
-    }
+    let contents = reader::read(file, &mut words, &mut values, &mut errors)?;
+    let count = contents.words as usize;
+    let lines = contents.lines as usize;
+    writer::write(
+        contents.level,
+        contents.te,
+        contents.ae,
+        &words[..count],
+        &values[..lines],
+        &errors[..lines],
+        again,
+    )
 }

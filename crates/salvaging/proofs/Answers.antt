@@ -1,13 +1,14 @@
 -- The promise of the salvage, case by case, from where the reader's first pass has stopped. Assumes nothing.
+use native.Mathlib.Numerals.{add-one}
 use Prim.Native.Nat.{ℕ, ◌+◌, ◌-◌, ◌*◌, ◌/◌, ◌^◌, ◌<◌, ◌≤◌}
+use Rattle.std.specs.Prelude.{Option, Ok, Err}
 use mathlib.Core.Path.{◌≡◌, refl, ap, sym, subst, ◌∙◌}
 use mathlib.Core.Bool.{Bool, true, false}
-use mathlib.Core.List.{List, [], ◌∷◌, ◌++◌, map}
+use mathlib.Core.List.{List, ◌∷◌, ◌++◌, map, []}
 use native.Mathlib.Omega.{arith}
-use native.Mathlib.Numerals.{add-one}
 use borrow.Author.Tests.{lt-ltb, le-ltb}
-use lib.ListN.{length, get_or, take, drop, length-append, length-map, drop_of_length-le}
-use lib.Seq.{drop-cons, get_or-take, length-take-le}
+use lib.ListN.{length, take, drop, length-append, length-map, get_or, drop_of_length-le}
+use lib.Seq.{length-take-le, drop-cons, get_or-take}
 use Rattle.terms.specs.declared.Refusal.{Refusal}
 use Rattle.terms.specs.declared.Refusal.TheVariants.{NoWholePlan, RoomTooShort}
 use Rattle.terms.specs.Outcome.{accepted, refused_by, left}
@@ -15,7 +16,6 @@ use Rattle.workfile.specs.Numbers.{bytes}
 use Rattle.workfile.specs.Content.{Content, between, bytes_of_all, error_records, plan_bytes, closing}
 use Rattle.workfile.specs.Decode.{record_at, has_plan, stop_in}
 use Rattle.workfile.specs.Promises.{over}
-use Rattle.workfile.specs.declared.Tally.{Tally}
 use Rattle.workfile.specs.declared.FileRecord.{FileRecord}
 use Rattle.workfile.specs.declared.FileRecord.TheVariants.{Word, Value, End}
 use Rattle.workfile.proofs.Growing.{front, length_between, front_short}
@@ -27,14 +27,9 @@ use Rattle.writer.proofs.Laying.{lay_over, laid_on, long}
 use Rattle.salvaging.specs.Salvage.{records_of, old_end, old_size, with_end, result_at, result_of, salvaged_at, salvaged_of, salvage_of, SalvagePromise}
 use Rattle.salvaging.specs.Steps.{kept_by, Counted, Ended}
 use Rattle.salvaging.specs.declared.{OldEnd.OldEnd, Salvaged.Salvaged}
-use Rattle.salvaging.specs.declared.SalvageAnswer.TheVariants.{Kept, Refused}
 use Rattle.salvaging.proofs.Runs.{ran, kept_run}
 use Rattle.salvaging.proofs.Result.{length_with}
 use Rattle.salvaging.proofs.Found.{old_within}
-
-pub kept_so : (at : ℕ) (t : Tally) {r : ℕ} → r ≡ 1 + (t.words + t.lines) + (at - 18 - 9 * (t.words + t.lines)) / 13 → r ≡ kept_by at t
-unfolding kept_by
-kept_so at t e = e
 
 -- the records of a run, by its counts and its bytes
 shares : (w v e at : ℕ) → at ≡ 18 + (9 * w + 9 * v + 13 * e) → 1 + (w + v) + (at - 18 - 9 * (w + v)) / 13 ≡ 1 + (w + v + e)
@@ -128,7 +123,7 @@ module _ (f : List ℕ) {s : Stopped} (e : Ended f s) where
         old = old_end (record_at f (p i).at);
       })
 
-  pub reported : {r : FileRecord} {old : OldEnd} {m k : ℕ} → r ≡ record_at f s.at → old ≡ old_end r → m ≡ old_size old → k ≡ kept_by s.at s.tally
+  pub reported : {r : FileRecord} {old : Option OldEnd} {m k : ℕ} → r ≡ record_at f s.at → old ≡ old_end r → m ≡ old_size old → k ≡ kept_by s.at s.tally
       → record { length = s.at + 13; kept = k; dropped = length f - s.at - m; lines = s.tally.lines; sum = s.tally.sum; old = old } ≡ salvaged_of f
   unfolding salvaged_of
   reported {r} {old} {m} {k} here is n count =
@@ -137,7 +132,7 @@ module _ (f : List ℕ) {s : Stopped} (e : Ended f s) where
       (λ i. record { length = s.at + 13; kept = count i; dropped = length f - s.at - d i; lines = s.tally.lines; sum = s.tally.sum; old = o i })
       ∙ sym its_salvaged
 
-  pub old_fits : {r : FileRecord} {old : OldEnd} {m : ℕ} → r ≡ record_at f s.at → old ≡ old_end r → m ≡ old_size old → m ≤ length f - s.at
+  pub old_fits : {r : FileRecord} {old : Option OldEnd} {m : ℕ} → r ≡ record_at f s.at → old ≡ old_end r → m ≡ old_size old → m ≤ length f - s.at
   old_fits {r} {old} {m} here is n =
       let k : m ≡ old_size (old_end (record_at f s.at)) = n ∙ ap old_size (is ∙ ap old_end here) in
       omega (arith, (ends f s e).old)
@@ -167,23 +162,23 @@ with_end_laid f at n s p q = laid_on p q
 
 -- each way out
 module _ (f out : List ℕ) where
-  refuse : (why : Refusal) → salvage_of f (length out) ≡ refused_by why → SalvagePromise f out (Refused why) out
+  refuse : (why : Refusal) → salvage_of f (length out) ≡ refused_by why → SalvagePromise f out (Err why) out
   refuse why q = record { answer = sym q; out_left = sym (ap (left (λ _. over (result_of f) out) out) q) }
 
   -- where the pass has stopped, and whether it has passed P
   module _ {s : Stopped} (is : s ≡ stopped_in f) where
-    pub none_first : s.at ≡ 0 → SalvagePromise f out (Refused NoWholePlan) out
+    pub none_first : s.at ≡ 0 → SalvagePromise f out (Err NoWholePlan) out
     unfolding salvage_of
     none_first none = refuse NoWholePlan (rw (no_whole_plan f s is none) refl)
 
-    pub no_room : (s.at ≡ 0 → ⊥) → length out < s.at + 13 → SalvagePromise f out (Refused (RoomTooShort (s.at + 13))) out
+    pub no_room : (s.at ≡ 0 → ⊥) → length out < s.at + 13 → SalvagePromise f out (Err (RoomTooShort (s.at + 13))) out
     unfolding salvage_of
     no_room some r =
         let e = has_ended f s is some in
         refuse (RoomTooShort (s.at + 13)) (rw (e.plan, (ends f s e).length_is, lt-ltb (length out) (s.at + 13) r))
 
     pub salvaged : (s.at ≡ 0 → ⊥) → s.at + 13 ≤ length out → {out' : List ℕ} {m : ℕ} {said : Salvaged} → said ≡ salvaged_of f
-        → Laid out 0 (with_end f s.at (End s.tally.lines s.tally.sum)) out' m → SalvagePromise f out (Kept said) out'
+        → Laid out 0 (with_end f s.at (End s.tally.lines s.tally.sum)) out' m → SalvagePromise f out (Ok said) out'
     unfolding salvage_of
     salvaged some r {out'} {m} {said} told w =
         let e = has_ended f s is some in

@@ -1,5 +1,6 @@
 -- The old Z: what it is of the record at hand, and its length. Assumes nothing.
 use Prim.Native.Nat.{ℕ, ◌-◌, ◌≤◌}
+use Rattle.std.specs.Prelude.{Option, Some, None}
 use mathlib.Core.Path.{◌≡◌, refl, ap, sym}
 use mathlib.Core.Logic.{◌⊎◌, inl, inr, ⊎_elim}
 use mathlib.Core.List.{List}
@@ -11,10 +12,9 @@ use Rattle.workfile.specs.declared.FileRecord.TheVariants.{Word, Value, ErrorOf,
 use Rattle.workfile.proofs.Stopping.{size_at}
 use Rattle.salvaging.specs.Salvage.{old_end, old_size}
 use Rattle.salvaging.specs.declared.OldEnd.{OldEnd}
-use Rattle.salvaging.specs.declared.OldEnd.TheVariants.{Stands, Missing}
 
 -- the old Z, by the record at hand
-end_or_not : (r : FileRecord) → ((n : ℕ) × (s : ℕ) × (r ≡ End n s)) ⊎ (old_end r ≡ Missing)
+end_or_not : (r : FileRecord) → ((n : ℕ) × (s : ℕ) × (r ≡ End n s)) ⊎ (old_end r ≡ None)
 unfolding old_end
 end_or_not (Word w) = inr refl
 end_or_not (Value v) = inr refl
@@ -22,19 +22,12 @@ end_or_not (ErrorOf u l n) = inr refl
 end_or_not (End n s) = inl (n, s, refl)
 end_or_not Nothing = inr refl
 
-pub is_old : (r : FileRecord) (n s : ℕ) → r ≡ End n s → Stands n s ≡ old_end r
-unfolding old_end
-is_old r n s e = sym (ap old_end e)
-
--- a record of another kind
-pub is_none : (r : FileRecord) → ((n s : ℕ) → r ≡ End n s → ⊥) → Missing ≡ old_end r
-is_none r other = ⊎_elim (λ z. absurd (other z.0 z.1 z.2)) (λ e. sym e) (end_or_not r)
-
-pub size_there : {o : OldEnd} {n s : ℕ} → o ≡ Stands n s → 13 ≡ old_size o
+-- its length
+pub size_there : {o : Option OldEnd} {z : OldEnd} → o ≡ Some z → 13 ≡ old_size o
 unfolding old_size
 size_there e = sym (ap old_size e)
 
-pub size_none : {o : OldEnd} → o ≡ Missing → 0 ≡ old_size o
+pub size_none : {o : Option OldEnd} → o ≡ None → 0 ≡ old_size o
 unfolding old_size
 size_none e = sym (ap old_size e)
 

@@ -1,5 +1,7 @@
 -- What the request asks of a salvage, proved of its definitions. Assumes nothing.
 use Prim.Native.Nat.{ℕ, zero, suc, ◌+◌, ◌-◌, ◌/◌, ◌≤◌}
+use Rattle.terms.specs.declared.Refusal.{Refusal}
+use Rattle.std.specs.Prelude.{Result, Some}
 use mathlib.Core.Path.{◌≡◌, refl, ap, ap₂, sym, subst, ◌∙◌}
 use mathlib.Core.Bool.{Bool, true, false, ◌&&◌, not}
 use mathlib.Core.Logic.{◌⊎◌}
@@ -9,10 +11,10 @@ use lib.Dec.{eqb, ltb}
 use borrow.Author.Tests.{eqb-true, le-ltb}
 use lib.ListN.{length, take, drop, take-append-drop, length-drop}
 use lib.Seq.{take_at, take-take, length-take-le}
-use Rattle.terms.specs.Outcome.{accepted, refused, left}
+use Rattle.terms.specs.Outcome.{accepted, refused, left, says}
 use Rattle.terms.specs.Numbers.{pick}
 use Rattle.terms.proofs.Outcomes.{never, Gives}
-use Rattle.terms.proofs.Answers.{Made, good, bad, one_answer}
+use Rattle.terms.proofs.Answers.{says_once}
 use Rattle.terms.proofs.Tests.{by_test}
 use Rattle.workfile.specs.Numbers.{Bytes, bytes}
 use Rattle.workfile.specs.Content.{Content, longest_file, bytes_of, closing}
@@ -25,10 +27,8 @@ use Rattle.workfile.proofs.Rules.{rule, is_last, is_end_lem}
 use Rattle.workfile.proofs.Growing.{front_short}
 use Rattle.workfile.proofs.OneFile.{plan_there}
 use Rattle.workfile.proofs.Stopping.{has_plan_lem, decode_decided, decided_end, decided_bad, stops, halts_in}
-use Rattle.salvaging.specs.Salvage.{Run, records_of, old_end, old_size, with_end, result_at, result_of, salvaged_at, salvaged_of, salvage_says, salvage_of, SalvagePromise}
-use Rattle.salvaging.specs.declared.OldEnd.TheVariants.{Stands}
-use Rattle.salvaging.specs.declared.{Salvaged.Salvaged, SalvageAnswer.SalvageAnswer}
-use Rattle.salvaging.specs.declared.SalvageAnswer.TheVariants.{Kept, Refused}
+use Rattle.salvaging.specs.Salvage.{Run, records_of, old_end, old_size, with_end, result_at, result_of, salvaged_at, salvaged_of, salvage_of, SalvagePromise}
+use Rattle.salvaging.specs.declared.{Salvaged.Salvaged}
 use Rattle.salvaging.proofs.Runs.{ran, kept_run, longest, after_it}
 use Rattle.salvaging.proofs.Result.{run_stays, length_with, closing_there, run_with, reads_with}
 use Rattle.salvaging.proofs.Answers.{ends_there}
@@ -121,7 +121,7 @@ all_bytes f h = let q = ends_there f h in omega (arith, q.within, q.old)
 pub record Unchanged (f : List ℕ) : Type 0 where
   pub same : result_of f ≡ f
   pub none_dropped : (salvaged_of f).dropped ≡ 0
-  pub old_is_new : (salvaged_of f).old ≡ Stands (salvaged_of f).lines (salvaged_of f).sum
+  pub old_is_new : (salvaged_of f).old ≡ Some (record { count = (salvaged_of f).lines; sum = (salvaged_of f).sum })
 
 -- where the pass over a legal file stops, its right Z stands, and no more
 only_closed : (b : Bool) (c : Content) (n : ℕ) (d : Content) → pick b (accepted c) (refused 17 n) ≡ accepted d → b ≡ true
@@ -161,15 +161,15 @@ accepted_so : (f : List ℕ) (room : ℕ) (s : Salvaged) → salvage_of f room �
 unfolding salvage_of
 accepted_so f room s = by_test (λ o. o ≡ accepted s → has_plan f ≡ true) (has_plan f) (λ h _. h) (λ _ e. never e)
 
-module _ {f out out' : List ℕ} {r : SalvageAnswer} (p : SalvagePromise f out r out') where
-  pub reads_back : (s : Salvaged) → Bytes f → salvage_says r ≡ accepted s → decode (take (length (result_of f)) out') ≡ accepted (grow (stop_in f).read (closing (stop_in f).read))
+module _ {f out out' : List ℕ} {r : Result Salvaged Refusal} (p : SalvagePromise f out r out') where
+  pub reads_back : (s : Salvaged) → Bytes f → says r ≡ accepted s → decode (take (length (result_of f)) out') ≡ accepted (grow (stop_in f).read (closing (stop_in f).read))
   reads_back s b e =
       let o : salvage_of f (length out) ≡ accepted s = sym p.answer ∙ e in
       let is : out' ≡ over (result_of f) out = p.out_left ∙ ap (left (λ _. over (result_of f) out) out) o in
       ap decode (ap (take (length (result_of f))) is ∙ take_at (result_of f) (drop (length (result_of f)) out) (length (result_of f)) refl)
       ∙ result_reads f b (accepted_so f (length out) s o)
 
-  pub same_bytes : (d : Content) → Bytes f → decode f ≡ accepted d → length f ≤ length out → (salvage_says r ≡ accepted (salvaged_of f)) × (out' ≡ over f out)
+  pub same_bytes : (d : Content) → Bytes f → decode f ≡ accepted d → length f ≤ length out → (says r ≡ accepted (salvaged_of f)) × (out' ≡ over f out)
   unfolding salvage_of
   same_bytes d b e room =
       let u = (unchanged f d b e).same in
@@ -178,7 +178,7 @@ module _ {f out out' : List ℕ} {r : SalvageAnswer} (p : SalvagePromise f out r
       let o : salvage_of f (length out) ≡ accepted (salvaged_of f) = rw (has_plan_lem f h.1 h.0, le-ltb (length out) (length (result_of f)) n) in
       (p.answer ∙ o, p.out_left ∙ ap (left (λ _. over (result_of f) out) out) o ∙ ap (λ (l : List ℕ). over l out) u)
 
-  pub untouched : (n at : ℕ) → salvage_says r ≡ refused n at → out' ≡ out
+  pub untouched : (n at : ℕ) → says r ≡ refused n at → out' ≡ out
   untouched n at e = p.out_left ∙ ap (left (λ _. over (result_of f) out) out) (sym p.answer ∙ e)
 
 -- which refusals it gives
@@ -188,10 +188,6 @@ salvage_gives f room =
     by_test (Gives (29 ∷ 18 ∷ [])) (has_plan f) (λ _. by_test (Gives (29 ∷ 18 ∷ [])) (ltb room (length (result_of f))) (λ _. tt) (λ _. tt)) (λ _. tt)
 
 -- any two results that meet the promise agree
-made : (r : SalvageAnswer) → Made Kept Refused r
-made (Kept s) = good s
-made (Refused why) = bad why
-
-pub salvage_once : {f out out₁ out₂ : List ℕ} {r₁ r₂ : SalvageAnswer} → SalvagePromise f out r₁ out₁ → SalvagePromise f out r₂ out₂ → (r₁ ≡ r₂) × (out₁ ≡ out₂)
+pub salvage_once : {f out out₁ out₂ : List ℕ} {r₁ r₂ : Result Salvaged Refusal} → SalvagePromise f out r₁ out₁ → SalvagePromise f out r₂ out₂ → (r₁ ≡ r₂) × (out₁ ≡ out₂)
 salvage_once {r₁} {r₂} p q =
-    (one_answer salvage_says Kept Refused (λ s. refl) (λ why. refl) made r₁ r₂ p.answer q.answer, p.out_left ∙ sym q.out_left)
+    (says_once r₁ r₂ p.answer q.answer, p.out_left ∙ sym q.out_left)

@@ -14,9 +14,9 @@ use workfile::{FileRecord, Tally};
 
 // A whole Z that stands directly after the run, right or wrong: its count and its sum.
 #[derive(Clone, Copy)]
-pub enum OldEnd {
-    Stands(u64, u64),
-    Missing,
+pub struct OldEnd {
+    pub count: u64,
+    pub sum: u64,
 }
 
 // What is said of a file that was salvaged: the result's length, the records kept, the bytes dropped, the new count and sum, and the old Z.
@@ -27,69 +27,63 @@ pub struct Salvaged {
     pub dropped: u64,
     pub lines: u64,
     pub sum: u64,
-    pub old: OldEnd,
-}
-
-#[derive(Clone, Copy)]
-pub enum SalvageAnswer {
-    Kept(Salvaged),
-    Refused(Refusal),
+    pub old: Option<OldEnd>,
 }
 
 // The Z at hand, where the record is one.
-fn old_end(found: FileRecord) -> OldEnd
+#[tactic(auto, unfolding(crate::specs::Salvage::old_end))]
+fn old_end(found: FileRecord) -> Option<OldEnd>
     ensures { result ≡ old_end found }
 {
-    if let FileRecord::End(count, sum) = found {
-        return OldEnd::Stands(count as u64, sum);
+    match found {
+        FileRecord::End(count, sum) => Some(OldEnd {
+            count: count as u64,
+            sum,
+        }),
+        _ => None,
     }
-    OldEnd::Missing
 }
 
 // The bytes of the old Z.
-fn old_size(old: OldEnd) -> usize
+fn old_size(old: Option<OldEnd>) -> usize
     ensures { result ≡ old_size old }
 {
-    if let OldEnd::Stands(_count, _sum) = old {
-        return 13;
+    match old {
+        Some(_) => 13,
+        None => 0,
     }
-    0
 }
 
 // The records of a run that ends there: P, W and L as they were counted, and as many E and U as have room after them.
+#[tactic(auto, unfolding(crate::specs::Steps::kept_by))]
 fn kept_by(at: usize, tally: Tally) -> usize
     requires { Counted at tally }
     ensures { result ≡ kept_by at tally }
 {
     let counted = tally.words + tally.lines;
-    let after_plan = at - 18;
-    let after_lines = after_plan - 9 * counted;
-    1 + counted + after_lines / 13
+    1 + counted + (at - 18 - 9 * counted) / 13
 }
 
 // What is said of the run.
+#[tactic(auto, using(crate::proofs::Answers::at_within, crate::proofs::Answers::old_fits, crate::proofs::Answers::counted_there, crate::proofs::Answers::length_fits, crate::proofs::Answers::reported))]
 fn said(file: &[u8], stopped: Stopped) -> Salvaged
     requires { Ended file.now stopped }
     ensures { result ≡ salvaged_of file.now }
 {
     let at = stopped.at;
-    let tally = stopped.tally;
-    let rest = file.len() - at;
     let old = old_end(records::record_at(file, at));
-    let dropped = rest - old_size(old);
-    let kept = kept_by(at, tally);
-    let length = at + 13;
     Salvaged {
-        length: length as u64,
-        kept: kept as u64,
-        dropped: dropped as u64,
-        lines: tally.lines as u64,
-        sum: tally.sum,
+        length: (at + 13) as u64,
+        kept: kept_by(at, stopped.tally) as u64,
+        dropped: (file.len() - at - old_size(old)) as u64,
+        lines: stopped.tally.lines as u64,
+        sum: stopped.tally.sum,
         old,
     }
 }
 
-// The first bytes of a file; answers their number.
+// The first bytes of a file; answers their number. By index: `copy_from_slice` calls `memcpy`, which is counted at an instruction a byte, and the
+// salvage of the longest file then at 1.34 times plain C.
 fn copy(file: &[u8], count: usize, out: &mut [u8]) -> usize
     requires { (count ≤ length file.now) × (count ≤ length out.old) }
     ensures { Laid out.old 0 (take count file.now) out.new result }
@@ -112,20 +106,19 @@ fn put_result(file: &[u8], at: usize, lines: usize, sum: u64, out: &mut [u8]) ->
 }
 
 // What can be kept of a file goes to the second buffer, with a right Z; 29, then 18, and a refused call changes nothing.
-pub fn salvage(file: &[u8], out: &mut [u8]) -> SalvageAnswer
+#[tactic(auto, using(crate::proofs::Answers::none_first, crate::proofs::Answers::no_room, crate::proofs::Answers::needed_fits, crate::proofs::Answers::run_fits))]
+pub fn salvage(file: &[u8], out: &mut [u8]) -> Result<Salvaged, Refusal>
     ensures { SalvagePromise file.now out.old result out.new }
 {
     let stopped = reader::pass(file);
-    let at = stopped.at;
-    if at == 0 {
-        return SalvageAnswer::Refused(Refusal::NoWholePlan);
+    if stopped.at == 0 {
+        return Err(Refusal::NoWholePlan);
     }
-    let needed = at + 13;
+    let needed = stopped.at + 13;
     if out.len() < needed {
-        return SalvageAnswer::Refused(Refusal::RoomTooShort(needed as u64));
+        return Err(Refusal::RoomTooShort(needed as u64));
     }
     let tally = stopped.tally;
-    let salvaged = said(file, stopped);
-    put_result(file, at, tally.lines, tally.sum, out);
-    SalvageAnswer::Kept(salvaged)
+    put_result(file, stopped.at, tally.lines, tally.sum, out);
+    Ok(said(file, stopped))
 }

@@ -1,6 +1,8 @@
 -- The theorem: on every input both methods give the same marks, sums, counts and refusals; so what an operation of the blackboard promises is what the
 -- first method's promises. Assumes nothing.
 use Prim.Native.Nat.{ℕ, ◌≤◌, ◌<◌}
+use Rattle.terms.specs.declared.Refusal.{Refusal}
+use Rattle.std.specs.Prelude.{Result, Ok, Err}
 use native.Mathlib.Nat.{eq-zero-or-pos}
 use native.Mathlib.Omega.{arith}
 use mathlib.Core.Path.{◌≡◌, refl, ap, ◌∙◌}
@@ -9,21 +11,19 @@ use mathlib.Core.Logic.{⊎_elim}
 use borrow.Author.Tests.{eq-eqb, ne_eqb, le-ltb, lt-ltb}
 use lib.IntN.{ℤ}
 use lib.ListN.{length}
-use Rattle.terms.specs.Outcome.{Outcome, accepted, refused, after, left}
+use Rattle.terms.specs.Outcome.{Outcome, accepted, refused, after, left, says}
 use Rattle.split.specs.declared.Figures.{Figures}
 use Rattle.split.specs.Split.{split_of}
 use Rattle.split.specs.Start.{start_in, figures_for}
 use Rattle.draw.specs.Row.{ones}
-use Rattle.draw.specs.Draw.{draw_says, marks_at, draw_of, DrawPromise}
+use Rattle.draw.specs.Draw.{marks_at, draw_of, DrawPromise}
 use Rattle.project.specs.declared.Projection.{Projection}
-use Rattle.project.specs.Project.{project_says, projected_by, project_of, ProjectPromise}
-use Rattle.blackboard.specs.declared.{BoardDrawAnswer.BoardDrawAnswer, BoardProjection.BoardProjection, BoardProjectAnswer.BoardProjectAnswer}
-use Rattle.blackboard.specs.declared.BoardDrawAnswer.TheVariants as draw
-use Rattle.blackboard.specs.declared.BoardProjectAnswer.TheVariants as project
+use Rattle.project.specs.Project.{projected_by, project_of, ProjectPromise}
+use Rattle.blackboard.specs.declared.{BoardProjection.BoardProjection}
 use Rattle.blackboard.specs.Board.{drawn_lines}
-use Rattle.blackboard.specs.Draw.{board_draw_says, walk_start, board_figures, board_marks_at, board_draw_of, BoardDrawPromise}
-use Rattle.blackboard.specs.Project.{board_project_says, board_projected_by, board_project_of, BoardProjectPromise}
-use Rattle.sameboard.specs.Same.{as_projected, SameAnswers, as_draw, as_project}
+use Rattle.blackboard.specs.Draw.{walk_start, board_figures, board_marks_at, board_draw_of, BoardDrawPromise}
+use Rattle.blackboard.specs.Project.{board_projected_by, board_project_of, BoardProjectPromise}
+use Rattle.sameboard.specs.Same.{as_projected, SameAnswers, as_project}
 use Rattle.sameboard.proofs.Marks.{same_marks, same_count}
 use Rattle.sameboard.proofs.Sums.{same_projection}
 
@@ -86,19 +86,15 @@ same_answers ledger n start marks errors =
     record { drawn = draw_same ledger n start (length marks); marked = marks_same ledger n start marks; projected = project_same ledger n start errors }
 
 -- what an answer says, as the first method's answer says it
-says_draw : (r : BoardDrawAnswer) → draw_says (as_draw r) ≡ board_draw_says r
-says_draw (draw.Drawn lines) = refl
-says_draw (draw.Refused why) = refl
-
-says_project : (r : BoardProjectAnswer) → project_says (as_project r) ≡ as_projected (board_project_says r)
-says_project (project.Projected projection) = refl
-says_project (project.Refused why) = refl
+pub says_project : (r : Result BoardProjection Refusal) → says (as_project r) ≡ as_projected (says r)
+says_project (Ok projection) = refl
+says_project (Err why) = refl
 
 -- so an operation of the blackboard keeps the promise of the first method's
-pub board_draws : (ledger : List ℕ) (n start : ℕ) (marks : List ℕ) (r : BoardDrawAnswer) (marks' : List ℕ) → BoardDrawPromise ledger n start marks r marks' →
-    DrawPromise ledger n start marks (as_draw r) marks'
+pub board_draws : (ledger : List ℕ) (n start : ℕ) (marks : List ℕ) (r : Result ℕ Refusal) (marks' : List ℕ) → BoardDrawPromise ledger n start marks r marks' →
+    DrawPromise ledger n start marks r marks'
 board_draws ledger n start marks r marks' p =
-    record { answer = says_draw r ∙ p.answer ∙ draw_same ledger n start (length marks); marks_left = p.marks_left ∙ marks_same ledger n start marks }
+    record { answer = p.answer ∙ draw_same ledger n start (length marks); marks_left = p.marks_left ∙ marks_same ledger n start marks }
 
-pub board_projects : (ledger : List ℕ) (n start : ℕ) (errors : List ℤ) (r : BoardProjectAnswer) → BoardProjectPromise ledger n start errors r → ProjectPromise ledger n start errors (as_project r)
+pub board_projects : (ledger : List ℕ) (n start : ℕ) (errors : List ℤ) (r : Result BoardProjection Refusal) → BoardProjectPromise ledger n start errors r → ProjectPromise ledger n start errors (as_project r)
 board_projects ledger n start errors r p = record { answer = says_project r ∙ ap as_projected p.answer ∙ project_same ledger n start errors }

@@ -1,13 +1,13 @@
 -- Request K12's theorem: the draw and the projection by walking give the same marks, sums, counts and refusals as the first draw and projection, on every
 -- input. Definitions: nothing is assumed.
-use Rattle.std.specs.Prelude.{ℕ, ◌≡◌, List, ℤ, length}
+use Rattle.std.specs.Prelude.{ℕ, ◌≡◌, List, ℤ, length, Result, Ok, Err}
+use Rattle.terms.specs.declared.Refusal.{Refusal}
 use Rattle.terms.specs.Outcome.{Outcome, accepted, after, left}
 use Rattle.split.specs.Start.{figures_for}
-use Rattle.draw.specs.declared.DrawAnswer.{DrawAnswer}
 use Rattle.draw.specs.Draw.{marks_at, draw_of}
-use Rattle.project.specs.declared.{Projection.Projection, ProjectAnswer.ProjectAnswer}
+use Rattle.project.specs.declared.{Projection.Projection}
 use Rattle.project.specs.Project.{project_of}
-use Rattle.blackboard.specs.declared.{BoardDrawAnswer.BoardDrawAnswer, BoardProjection.BoardProjection, BoardProjectAnswer.BoardProjectAnswer}
+use Rattle.blackboard.specs.declared.{BoardProjection.BoardProjection}
 use Rattle.blackboard.specs.Draw.{board_figures, board_marks_at, board_draw_of}
 use Rattle.blackboard.specs.Project.{board_project_of}
 
@@ -25,11 +25,7 @@ pub record SameAnswers (ledger : List ℕ) (n start : ℕ) (marks : List ℕ) (e
   pub marked : left (board_marks_at ledger start) marks (board_figures ledger n start (length marks)) ≡ left (marks_at ledger start) marks (figures_for ledger n start (length marks))
   pub projected : as_projected (board_project_of ledger n start errors) ≡ project_of ledger n start errors
 
--- the answer of either method, as the first gives it
-abbrev pub as_draw : BoardDrawAnswer → DrawAnswer
-as_draw (BoardDrawAnswer.Drawn lines) = DrawAnswer.Drawn lines
-as_draw (BoardDrawAnswer.Refused why) = DrawAnswer.Refused why
-
-abbrev pub as_project : BoardProjectAnswer → ProjectAnswer
-as_project (BoardProjectAnswer.Projected projection) = ProjectAnswer.Projected (as_projection projection)
-as_project (BoardProjectAnswer.Refused why) = ProjectAnswer.Refused why
+-- the walk's answer, as the first method gives it
+abbrev pub as_project : Result BoardProjection Refusal → Result Projection Refusal
+as_project (Ok projection) = Ok (as_projection projection)
+as_project (Err why) = Err why

@@ -1,4 +1,5 @@
 -- A tally that tells a list tells the longer list once an entry is added. Assumes nothing.
+use Rattle.std.specs.Prelude.{Some, None}
 use mathlib.Core.Path.{◌≡◌, refl, sym, ap, ◌∙◌, subst}
 use mathlib.Core.Bool.{Bool, true, false}
 use mathlib.Core.List.{List, []}
@@ -17,10 +18,8 @@ use Rattle.factors.specs.Levels.{percent_of, row_of, level_of}
 use Rattle.factors.proofs.Percents.{percents, percent_at, named, named_only}
 use Rattle.judge.specs.declared.Verdict.{Verdict}
 use Rattle.season.specs.declared.Judged.{Judged}
-use Rattle.season.specs.declared.Entry.{Entry}
-use Rattle.season.specs.declared.Entry.TheVariants.{Judgement, NotJudged}
 use Rattle.season.specs.declared.Tally.{Tally}
-use Rattle.season.specs.Tally.{column_of, cell_of, leads_of, no_tally, with_judged, with_not_judged}
+use Rattle.season.specs.Tally.{Entry, column_of, cell_of, leads_of, no_tally, with_judged, with_not_judged}
 use Rattle.season.specs.Figures.{in_cell, is_refused, book_of, limit_of, At, Tells, more}
 use Rattle.season.proofs.Cells.{cell_lt, cell_row, cell_column}
 use Rattle.season.proofs.Lists.{length_more, count_more, sum_more, at_more, never_judged}
@@ -28,13 +27,13 @@ use Rattle.season.proofs.Worst.{worst_apart, worst_more}
 
 -- a judgement is in the cell of its level and verdict, and in no other
 module _ (j : Judged) (level : Level) (known : level_of j.level ≡ accepted level) (m : Level) (w : Verdict) where
-  in_its_cell : cell_of m w ≡ cell_of level j.verdict → in_cell m w (Judgement j) ≡ true
+  in_its_cell : cell_of m w ≡ cell_of level j.verdict → in_cell m w (Some j) ≡ true
   in_its_cell e =
       let percent : j.level ≡ percent_of m =
       sym (named_only j.level level known) ∙ sym (percent_at level) ∙ ap (λ (r : ℕ). get_or percents r 0) (sym (cell_row m level w j.verdict e)) ∙ percent_at m in
       simp (eq-eqb j.level (percent_of m) percent, eq-eqb (column_of j.verdict) (column_of w) (sym (cell_column m level w j.verdict e)))
 
-  in_no_other : (cell_of m w ≡ cell_of level j.verdict → ⊥) → in_cell m w (Judgement j) ≡ false
+  in_no_other : (cell_of m w ≡ cell_of level j.verdict → ⊥) → in_cell m w (Some j) ≡ false
   unfolding cell_of
   in_no_other d =
       by_test (λ b. b ≡ false) (eqb j.level (percent_of m))
@@ -74,7 +73,7 @@ tells_nothing =
 
 module _ {l : List Entry} {t : Tally} (told : Tells l t) where
   -- a judgement at a known level, with a book
-  pub tells_judged : (j : Judged) (level : Level) → level_of j.level ≡ accepted level → (j.book ≡ 0 → ⊥) → Tells (more l (Judgement j)) (with_judged t (cell_of level j.verdict) j)
+  pub tells_judged : (j : Judged) (level : Level) → level_of j.level ≡ accepted level → (j.book ≡ 0 → ⊥) → Tells (more l (Some j)) (with_judged t (cell_of level j.verdict) j)
   unfolding with_judged
   tells_judged j level known some =
       let at : ℕ = cell_of level j.verdict in
@@ -83,27 +82,27 @@ module _ {l : List Entry} {t : Tally} (told : Tells l t) where
       record {
         cells = length-set t.counts at (get_or t.counts at 0 + 1) ∙ told.cells;
         counts = λ m w.
-            one_more t.counts at (cell_of m w) (in_cell m w (Judgement j)) inside (in_its_cell j level known m w) (in_no_other j level known m w) ∙
-            ap (λ (n : ℕ). n + pick (in_cell m w (Judgement j)) 1 0) (told.counts m w) ∙ sym (count_more (in_cell m w) l (Judgement j));
-        books = omega (arith, told.books, sum_more book_of l (Judgement j));
-        limits = omega (arith, told.limits, sum_more limit_of l (Judgement j));
-        refused = omega (arith, told.refused, count_more is_refused l (Judgement j));
-        added = omega (arith, told.added, length_more l (Judgement j));
+            one_more t.counts at (cell_of m w) (in_cell m w (Some j)) inside (in_its_cell j level known m w) (in_no_other j level known m w) ∙
+            ap (λ (n : ℕ). n + pick (in_cell m w (Some j)) 1 0) (told.counts m w) ∙ sym (count_more (in_cell m w) l (Some j));
+        books = omega (arith, told.books, sum_more book_of l (Some j));
+        limits = omega (arith, told.limits, sum_more limit_of l (Some j));
+        refused = omega (arith, told.refused, count_more is_refused l (Some j));
+        added = omega (arith, told.added, length_more l (Some j));
         worst = worst_more l t.worst t.worst_limit t.worst_book j told.a_book books t.added told.added (leads_of j.limit j.book t.worst_limit t.worst_book) refl told.worst;
-        a_book = λ k i h. ⊎_elim (λ (g : At l k i). told.a_book k i g) (λ g. let same : j ≡ i = cc in subst (λ (x : Judged). 0 < x.book) same books) (at_more l (Judgement j) k i h);
+        a_book = λ k i h. ⊎_elim (λ (g : At l k i). told.a_book k i g) (λ g. let same : j ≡ i = cc in subst (λ (x : Judged). 0 < x.book) same books) (at_more l (Some j) k i h);
       }
 
   -- one that was refused
-  pub tells_apart : Tells (more l NotJudged) (with_not_judged t)
+  pub tells_apart : Tells (more l None) (with_not_judged t)
   unfolding with_not_judged
   tells_apart =
       record {
         cells = told.cells;
-        counts = λ m w. omega (arith, told.counts m w, count_more (in_cell m w) l NotJudged);
-        books = omega (arith, told.books, sum_more book_of l NotJudged);
-        limits = omega (arith, told.limits, sum_more limit_of l NotJudged);
-        refused = omega (arith, told.refused, count_more is_refused l NotJudged);
-        added = omega (arith, told.added, length_more l NotJudged);
+        counts = λ m w. omega (arith, told.counts m w, count_more (in_cell m w) l None);
+        books = omega (arith, told.books, sum_more book_of l None);
+        limits = omega (arith, told.limits, sum_more limit_of l None);
+        refused = omega (arith, told.refused, count_more is_refused l None);
+        added = omega (arith, told.added, length_more l None);
         worst = worst_apart l _ _ _ told.worst;
-        a_book = λ k i h. ⊎_elim (λ (g : At l k i). told.a_book k i g) (λ g. never_judged g.1) (at_more l NotJudged k i h);
+        a_book = λ k i h. ⊎_elim (λ (g : At l k i). told.a_book k i g) (λ g. never_judged g.1) (at_more l None k i h);
       }

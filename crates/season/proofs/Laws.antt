@@ -1,4 +1,6 @@
 -- The tally after any list of entries: every figure is what the entries added give, and each answer follows from them alone. Assumes nothing.
+use Rattle.std.specs.Prelude.{Result, Ok, Err, Some, None}
+use Rattle.terms.specs.declared.Refusal.{Refusal}
 use mathlib.Core.Path.{◌≡◌, refl, sym, ap, ◌∙◌, subst}
 use mathlib.Core.Bool.{Bool, true, false}
 use mathlib.Core.List.{List, [], ◌∷◌, map}
@@ -10,16 +12,15 @@ use lib.Dec.{eqb, ltb, leb}
 use lib.ListN.{length, get_or}
 use Rattle.terms.specs.Limits.{most_judgements}
 use Rattle.terms.specs.Numbers.{pick, sum}
-use Rattle.terms.specs.Outcome.{Outcome, accepted, refused, after, left}
+use Rattle.terms.specs.Outcome.{Outcome, accepted, refused, after, left, says}
 use Rattle.terms.proofs.Outcomes.{never, refused_once, Gives, gives_after, gives_among}
 use Rattle.terms.proofs.Tests.{by_test, le_or_lt}
 use Rattle.factors.specs.declared.Level.{Level}
 use Rattle.factors.specs.Levels.{level_of}
 use Rattle.factors.proofs.Percents.{level_gives}
-use Rattle.season.specs.declared.{Judged.Judged, Entry.Entry, Tally.Tally, AddAnswer.AddAnswer, HandedBack.HandedBack}
-use Rattle.season.specs.declared.Entry.TheVariants.{Judgement, NotJudged}
-use Rattle.season.specs.Tally.{most_sum, cell_of, passes_of, no_tally}
-use Rattle.season.specs.Add.{says_with, add_says, AddPromise, passes, settled_of, at_level, judged_of, full, entered, add_of}
+use Rattle.season.specs.declared.{Judged.Judged, Tally.Tally, HandedBack.HandedBack}
+use Rattle.season.specs.Tally.{Entry, most_sum, cell_of, passes_of, no_tally}
+use Rattle.season.specs.Add.{add_says, AddPromise, passes, settled_of, at_level, judged_of, full, entered, add_of}
 use Rattle.season.specs.Figures.{in_cell, is_refused, count_of, limit_of, Tells, more, sum_passes, admitted_at, admitted_in, admitted, Alike, added_from, tally_from, added_of, tally_of}
 use Rattle.season.proofs.Cells.{level_at, verdict_at, every_cell}
 use Rattle.season.proofs.Lists.{count_le}
@@ -30,11 +31,11 @@ pub unchanged_by : {t : Tally} {o : Outcome Tally} {r : HandedBack} {number plac
 unchanged_by {t} m e = m.tally_left ∙ ap (left (λ u. u) t) e
 
 -- an outcome is handed back in one way
-one_said : (t u : Tally) (a b : AddAnswer) → says_with t a ≡ says_with u b → a ≡ b
-one_said t u AddAnswer.Added AddAnswer.Added e = refl
-one_said t u AddAnswer.Added (AddAnswer.Refused why) e = never (sym e)
-one_said t u (AddAnswer.Refused why) AddAnswer.Added e = never e
-one_said t u (AddAnswer.Refused x) (AddAnswer.Refused y) e = ap AddAnswer.Refused (refused_once x y e)
+one_said : (t u : Tally) (a b : Result Unit Refusal) → after (λ done. accepted t) (says a) ≡ after (λ done. accepted u) (says b) → a ≡ b
+one_said t u (Ok a) (Ok b) e = refl
+one_said t u (Ok a) (Err why) e = never (sym e)
+one_said t u (Err why) (Ok b) e = never e
+one_said t u (Err x) (Err y) e = ap Err (refused_once x y e)
 
 pub add_once : {t : Tally} {o : Outcome Tally} {r s : HandedBack} → AddPromise t o r → AddPromise t o s → r ≡ s
 add_once {r = r} {s = s} p q =
@@ -56,15 +57,15 @@ no_more true = refl
 no_more false = refl
 
 -- a list that takes an entry has it last
-admits_at : (l : List Entry) (j : Judged) (o : Outcome Level) (m : List Entry) → after (admitted_at l j) o ≡ accepted m → m ≡ more l (Judgement j)
+admits_at : (l : List Entry) (j : Judged) (o : Outcome Level) (m : List Entry) → after (admitted_at l j) o ≡ accepted m → m ≡ more l (Some j)
 admits_at l j (accepted level) m is =
-    by_test (λ x. x ≡ accepted m → m ≡ more l (Judgement j)) (eqb j.book 0) (λ z e. never e)
-    (λ z. by_test (λ x. x ≡ accepted m → m ≡ more l (Judgement j)) (sum_passes l j) (λ p e. never e) (λ p e. let same : more l (Judgement j) ≡ m = cc in sym same)) is
+    by_test (λ x. x ≡ accepted m → m ≡ more l (Some j)) (eqb j.book 0) (λ z e. never e)
+    (λ z. by_test (λ x. x ≡ accepted m → m ≡ more l (Some j)) (sum_passes l j) (λ p e. never e) (λ p e. let same : more l (Some j) ≡ m = cc in sym same)) is
 admits_at l j (refused n p) m e = never e
 
 admits_in : (l : List Entry) (e : Entry) (m : List Entry) → admitted_in l e ≡ accepted m → m ≡ more l e
-admits_in l (Judgement j) m is = admits_at l j (level_of j.level) m is
-admits_in l NotJudged m is = let same : more l NotJudged ≡ m = cc in sym same
+admits_in l (Some j) m is = admits_at l j (level_of j.level) m is
+admits_in l None m is = let same : more l None ≡ m = cc in sym same
 
 pub admits : (l : List Entry) (e : Entry) (m : List Entry) → admitted l e ≡ accepted m → m ≡ more l e
 unfolding admitted
@@ -95,8 +96,8 @@ module _ {l : List Entry} {t : Tally} (told : Tells l t) where
 
   alike_in : (e : Entry) → length l < most_judgements → Alike (admitted_in l e) (entered t e)
   unfolding judged_of
-  alike_in (Judgement j) few = by_level (level_of j.level) (admitted_at l j) (at_level t j) (λ level known. alike_level few j level known)
-  alike_in NotJudged few = tells_apart told
+  alike_in (Some j) few = by_level (level_of j.level) (admitted_at l j) (at_level t j) (λ level known. alike_level few j level known)
+  alike_in None few = tells_apart told
 
   -- the list with one more and the tally with one more: refused alike, or the tally tells the list
   pub alike : (e : Entry) → Alike (admitted l e) (add_of t e)
@@ -172,9 +173,9 @@ judged_gives t j =
 
 pub add_gives : (t : Tally) (e : Entry) → Gives add_numbers (add_of t e)
 unfolding add_of
-add_gives t (Judgement j) = by_test (Gives add_numbers) (full t) (λ f. tt) (λ f. judged_gives t j)
-add_gives t NotJudged = by_test (Gives add_numbers) (full t) (λ f. tt) (λ f. tt)
+add_gives t (Some j) = by_test (Gives add_numbers) (full t) (λ f. tt) (λ f. judged_gives t j)
+add_gives t None = by_test (Gives add_numbers) (full t) (λ f. tt) (λ f. tt)
 
-pub not_judged_gives : (t : Tally) → Gives (27 ∷ []) (add_of t NotJudged)
+pub not_judged_gives : (t : Tally) → Gives (27 ∷ []) (add_of t None)
 unfolding add_of
 not_judged_gives t = by_test (Gives (27 ∷ [])) (full t) (λ f. tt) (λ f. tt)

@@ -1,4 +1,5 @@
 -- A list of entries with one more at its end. Assumes nothing.
+use Rattle.std.specs.Prelude.{Some, None}
 use mathlib.Core.Path.{◌≡◌, refl, ap, ◌∙◌}
 use mathlib.Core.Bool.{Bool}
 use mathlib.Core.List.{List, [], ◌∷◌, map}
@@ -9,9 +10,8 @@ use lib.ListN.{length, length-append, get_or, get_or-append}
 use lib.Seq.{get_or-append_seam}
 use Rattle.terms.specs.Numbers.{pick, sum}
 use Rattle.terms.proofs.Tests.{by_test}
+use Rattle.season.specs.Tally.{Entry}
 use Rattle.season.specs.declared.Judged.{Judged}
-use Rattle.season.specs.declared.Entry.{Entry}
-use Rattle.season.specs.declared.Entry.TheVariants.{Judgement, NotJudged}
 use Rattle.season.specs.Figures.{count_of, At, more}
 
 pub length_more : (l : List Entry) (e : Entry) → length (more l e) ≡ length l + 1
@@ -33,7 +33,7 @@ count_le test (x ∷ l) =
     by_test (λ n. n + count_of test l ≤ suc (length l)) (test x) (λ t. omega arith) (λ t. omega arith)
 
 -- an entry that was refused is no judgement
-pub never_judged : {B : Type 0} {j : Judged} → NotJudged ≡ Judgement j → B
+pub never_judged : {B : Type 0} {j : Judged} → None ≡ Some j → B
 never_judged e = let z : ◌≡◌ {A = ℕ} 0 1 = cc in absurd (omega arith)
 
 -- a judgement stands within the list
@@ -44,13 +44,13 @@ at_lt (x ∷ l) (suc k) j e = let h = at_lt l k j e in omega arith
 
 -- it stands where it stood, and the last is at the length
 pub at_still : (l : List Entry) (e : Entry) (k : ℕ) (j : Judged) → At l k j → At (more l e) k j
-at_still l e k j h = get_or-append l (e ∷ []) NotJudged k (at_lt l k j h) ∙ h
+at_still l e k j h = get_or-append l (e ∷ []) None k (at_lt l k j h) ∙ h
 
-pub at_last : (l : List Entry) (e : Entry) → get_or (more l e) (length l) NotJudged ≡ e
-at_last l e = get_or-append_seam l e [] NotJudged
+pub at_last : (l : List Entry) (e : Entry) → get_or (more l e) (length l) None ≡ e
+at_last l e = get_or-append_seam l e [] None
 
 -- so what stands in the longer list stood in the shorter, or is the last
-pub at_more : (l : List Entry) (e : Entry) (k : ℕ) (j : Judged) → At (more l e) k j → At l k j ⊎ ((k ≡ length l) × (e ≡ Judgement j))
+pub at_more : (l : List Entry) (e : Entry) (k : ℕ) (j : Judged) → At (more l e) k j → At l k j ⊎ ((k ≡ length l) × (e ≡ Some j))
 at_more [] e zero j h = inr (refl, h)
 at_more [] e (suc k) j h = never_judged h
 at_more (x ∷ l) e zero j h = inl h

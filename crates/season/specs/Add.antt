@@ -1,32 +1,23 @@
 -- One entry added to any tally, in the order of K13: 27, 1, 5, 28. Definitions: nothing is assumed.
-use Rattle.std.specs.Prelude.{ℕ, ◌≡◌, Bool, true, eqb, leb, get_or}
+use Rattle.std.specs.Prelude.{ℕ, ◌≡◌, Bool, true, eqb, leb, get_or, Result, Ok, Err, Some, None}
 use Rattle.terms.specs.declared.Refusal.{Refusal}
 use Rattle.terms.specs.Limits.{most_judgements}
-use Rattle.terms.specs.Outcome.{Outcome, accepted, refused, refused_by, after, left}
+use Rattle.terms.specs.Outcome.{Outcome, accepted, refused, after, left, says}
 use Rattle.terms.specs.Numbers.{pick}
 use Rattle.factors.specs.declared.Level.{Level}
+use Rattle.judge.specs.declared.Judgement.{Judgement}
 use Rattle.factors.specs.Levels.{level_of}
-use Rattle.judge.specs.declared.JudgeAnswer.{JudgeAnswer}
-use Rattle.season.specs.declared.{Judged.Judged, Entry.Entry, Tally.Tally, AddAnswer.AddAnswer, HandedBack.HandedBack}
-use Rattle.season.specs.declared.Entry.TheVariants.{Judgement, NotJudged}
-use Rattle.season.specs.Tally.{cell_of, passes_of, with_judged, with_not_judged}
+use Rattle.season.specs.declared.{Judged.Judged, Tally.Tally, HandedBack.HandedBack}
+use Rattle.season.specs.Tally.{Entry, cell_of, passes_of, with_judged, with_not_judged}
 
 -- a judgement's answer as it is added: its level, its book's total, its upper limit and its verdict
-unfoldable pub entry_of : ℕ → ℕ → JudgeAnswer → Entry
-entry_of level book (JudgeAnswer.Judged judgement) = Judgement (record { level = level; book = book; limit = judgement.upper_limit; verdict = judgement.verdict })
-entry_of level book (JudgeAnswer.Refused why) = NotJudged
+unfoldable pub entry_of : ℕ → ℕ → Result Judgement Refusal → Entry
+entry_of level book (Ok judgement) = Some (record { level = level; book = book; limit = judgement.upper_limit; verdict = judgement.verdict })
+entry_of level book (Err why) = None
 
 -- what is handed back says the tally with one more, or a refusal's number and place
-abbrev pub says_with : Tally → AddAnswer → Outcome Tally
-says_with t AddAnswer.Added = accepted t
-says_with t (AddAnswer.Refused why) = refused_by why
-
 abbrev pub add_says : HandedBack → Outcome Tally
-add_says r = says_with r.tally r.answer
-
--- the tally as it was, with a refusal beside it
-abbrev pub unchanged : Tally → Refusal → HandedBack
-unchanged t why = record { answer = AddAnswer.Refused why; tally = t }
+add_says r = after (λ done. accepted r.tally) (says r.answer)
 
 -- what a method that adds to a tally promises of its outcome and what it hands back
 pub record AddPromise (t : Tally) (o : Outcome Tally) (r : HandedBack) : Type 0 where
@@ -54,8 +45,8 @@ full t = pick (leb most_judgements t.added) true (leb most_judgements t.refused)
 
 -- one that was refused meets only 27
 abbrev pub entered : Tally → Entry → Outcome Tally
-entered t (Judgement j) = judged_of t j
-entered t NotJudged = accepted (with_not_judged t)
+entered t (Some j) = judged_of t j
+entered t None = accepted (with_not_judged t)
 
 unfoldable pub add_of : Tally → Entry → Outcome Tally
 add_of t e = pick (full t) (refused 27 0) (entered t e)

@@ -1,6 +1,6 @@
 -- What a list of judgements gives: each figure of the tally in the request's words, and what is answered, said of the list alone.
 -- Definitions: nothing is assumed.
-use Rattle.std.specs.Prelude.{ℕ, ◌+◌, ◌<◌, ◌≡◌, Bool, true, false, List, [], ◌∷◌, ◌++◌, map, ◌⊎◌, eqb, ltb, leb, length, get_or}
+use Rattle.std.specs.Prelude.{ℕ, ◌+◌, ◌<◌, ◌≡◌, Bool, true, false, List, [], ◌∷◌, ◌++◌, map, ◌⊎◌, eqb, ltb, leb, length, get_or, Some, None}
 use Rattle.terms.specs.Limits.{most_judgements}
 use Rattle.terms.specs.Numbers.{pick, sum}
 use Rattle.terms.specs.Outcome.{Outcome, accepted, refused, after, left}
@@ -8,19 +8,18 @@ use Rattle.factors.specs.declared.Level.{Level}
 use Rattle.factors.specs.Levels.{percent_of, level_of}
 use Rattle.judge.specs.declared.Verdict.{Verdict}
 use Rattle.ratio.specs.Ratio.{exceeds}
-use Rattle.season.specs.declared.{Judged.Judged, Entry.Entry, Tally.Tally}
-use Rattle.season.specs.declared.Entry.TheVariants.{Judgement, NotJudged}
-use Rattle.season.specs.Tally.{most_sum, column_of, cell_of, no_tally}
+use Rattle.season.specs.declared.{Judged.Judged, Tally.Tally}
+use Rattle.season.specs.Tally.{Entry, most_sum, column_of, cell_of, no_tally}
 use Rattle.season.specs.Add.{add_of}
 
 -- a judgement at this level with this verdict
 abbrev pub in_cell : Level → Verdict → Entry → Bool
-in_cell level verdict (Judgement j) = pick (eqb j.level (percent_of level)) (eqb (column_of j.verdict) (column_of verdict)) false
-in_cell level verdict NotJudged = false
+in_cell level verdict (Some j) = pick (eqb j.level (percent_of level)) (eqb (column_of j.verdict) (column_of verdict)) false
+in_cell level verdict None = false
 
 abbrev pub is_refused : Entry → Bool
-is_refused (Judgement j) = false
-is_refused NotJudged = true
+is_refused (Some j) = false
+is_refused None = true
 
 -- how many entries pass a test
 abbrev pub count_of : (Entry → Bool) → List Entry → ℕ
@@ -28,16 +27,16 @@ count_of test [] = 0
 count_of test (e ∷ l) = pick (test e) 1 0 + count_of test l
 
 abbrev pub book_of : Entry → ℕ
-book_of (Judgement j) = j.book
-book_of NotJudged = 0
+book_of (Some j) = j.book
+book_of None = 0
 
 abbrev pub limit_of : Entry → ℕ
-limit_of (Judgement j) = j.limit
-limit_of NotJudged = 0
+limit_of (Some j) = j.limit
+limit_of None = 0
 
 -- a judgement stands at this place, counted from 0 with the refused ones
 abbrev pub At : List Entry → ℕ → Judged → Type 0
-At l place j = get_or l place NotJudged ≡ Judgement j
+At l place j = get_or l place None ≡ Some j
 
 -- a place leads: no judgement has a larger share of its book, and every earlier one has a smaller share
 pub record Leads (l : List Entry) (place : ℕ) (j : Judged) : Type 0 where
@@ -79,11 +78,11 @@ abbrev pub sum_passes : List Entry → Judged → Bool
 sum_passes l j = pick (ltb most_sum (sum (map book_of l) + j.book)) true (ltb most_sum (sum (map limit_of l) + j.limit))
 
 abbrev pub admitted_at : List Entry → Judged → Level → Outcome (List Entry)
-admitted_at l j level = pick (eqb j.book 0) (refused 5 0) (pick (sum_passes l j) (refused 28 0) (accepted (more l (Judgement j))))
+admitted_at l j level = pick (eqb j.book 0) (refused 5 0) (pick (sum_passes l j) (refused 28 0) (accepted (more l (Some j))))
 
 abbrev pub admitted_in : List Entry → Entry → Outcome (List Entry)
-admitted_in l (Judgement j) = after (admitted_at l j) (level_of j.level)
-admitted_in l NotJudged = accepted (more l NotJudged)
+admitted_in l (Some j) = after (admitted_at l j) (level_of j.level)
+admitted_in l None = accepted (more l None)
 
 unfoldable pub admitted : List Entry → Entry → Outcome (List Entry)
 admitted l e = pick (leb most_judgements (length l)) (refused 27 0) (admitted_in l e)

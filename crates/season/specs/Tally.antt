@@ -1,6 +1,6 @@
 -- The tally of a season: its cells, its largest sum, the one before the first judgement, which share leads, and what one more makes of it.
 -- Definitions: nothing is assumed.
-use Rattle.std.specs.Prelude.{ℕ, ◌+◌, ◌*◌, Bool, true, eqb, ltb, get_or, set, replicate}
+use Rattle.std.specs.Prelude.{ℕ, ◌+◌, ◌*◌, Bool, true, eqb, ltb, get_or, set, replicate, Option}
 use Rattle.terms.specs.Numbers.{pick}
 use Rattle.factors.specs.declared.Level.{Level}
 use Rattle.factors.specs.Levels.{row_of}
@@ -8,6 +8,10 @@ use Rattle.judge.specs.declared.Verdict.{Verdict}
 use Rattle.judge.specs.declared.Verdict.TheVariants.{Below, Inconclusive, Above}
 use Rattle.ratio.specs.Ratio.{exceeds}
 use Rattle.season.specs.declared.{Judged.Judged, Tally.Tally}
+
+-- what is added to a tally: a judgement, or none for one that was refused
+abbrev pub Entry : Type 0
+Entry = Option Judged
 
 -- the largest number of 64 bits
 abbrev pub most_sum : ℕ

@@ -1,5 +1,5 @@
 -- The largest remainder and the stratum that has it, how many remainders are above 0, and lists with one entry changed. Assumes nothing.
-use mathlib.Core.Path.{◌≡◌, refl, ◌∙◌}
+use mathlib.Core.Path.{◌≡◌, refl, sym, ◌∙◌}
 use mathlib.Core.List.{List, [], ◌∷◌}
 use mathlib.Core.Logic.{◌⊎◌, inl, inr, ⊎_elim}
 use Prim.Native.Nat.{ℕ, zero, suc, ◌+◌, ◌≤◌, ◌<◌, max}
@@ -7,7 +7,10 @@ use native.Mathlib.Nat.{eq-or-lt_of_le}
 use native.Mathlib.Omega.{arith}
 use lib.ListN.{length, get_or, set}
 use lib.Dec.{leb}
-use borrow.Author.Tests.{leb-true, leb-false}
+use Rattle.std.proofs.Common.{count_by, nat_lt}
+use Rattle.std.specs.List.{filter}
+use Rattle.std.proofs.lemmas.List.Sums.{length-filter}
+use borrow.Author.Tests.{leb-true, leb-false, le-leb}
 use Rattle.terms.specs.Numbers.{sum}
 use Rattle.terms.proofs.Tests.{by_test, le_or_lt}
 use Rattle.shares.specs.Shares.{first_draw, with_value, largest, largest_at}
@@ -19,6 +22,15 @@ first_most (suc cents) = omega arith
 pub first_some : (book : ℕ) → (book ≡ 0 → ⊥) → first_draw book ≡ 1
 first_some zero f = absurd (f refl)
 first_some (suc cents) f = refl
+
+-- as many as are above 0
+valued_of : (books : List ℕ) → length (filter (λ (book : ℕ). nat_lt 0 book) books) ≡ with_value books
+valued_of [] = refl
+valued_of (zero ∷ books) = omega (arith, valued_of books)
+valued_of (suc cents ∷ books) = simp (le-leb 1 (suc cents) (omega arith)) (omega (arith, valued_of books))
+
+pub valued : (books : List ℕ) → count_by (λ (book : ℕ). nat_lt 0 book) books ≡ with_value books
+valued books = sym (length-filter (λ (book : ℕ). nat_lt 0 book) books) ∙ valued_of books
 
 -- a sum above 0 has a number above 0
 pub some_with : (l : List ℕ) → 0 < sum l → 0 < with_value l

@@ -1,9 +1,11 @@
--- The loops that count the strata with value, find the largest remainder and give out the leftover draws: what each knows where it stands, at its beginning, after a turn
+-- The loops that find the largest remainder and give out the leftover draws: what each knows where it stands, at its beginning, after a turn
 -- and at its end. Assumes nothing.
 use mathlib.Core.Path.{◌≡◌, refl, sym, ap, ◌∙◌}
 use mathlib.Core.List.{List, [], ◌∷◌}
-use Prim.Native.Nat.{ℕ, zero, suc, ◌+◌, ◌-◌, ◌^◌, ◌≤◌, ◌<◌}
-use native.Mathlib.Nat.{zero-add}
+use Prim.Native.Nat.{ℕ, zero, suc, ◌+◌, ◌-◌, ◌^◌, ◌≤◌, ◌<◌, max}
+use mathlib.Core.Logic.{⊎_elim}
+use lib.Dec.{leb}
+use Rattle.terms.proofs.Tests.{le_or_lt}
 use native.Mathlib.Numerals.{add-one}
 use native.Mathlib.Omega.{arith}
 use lib.ListN.{length, get_or, drop, set, length-set, drop_of_length-le}
@@ -11,10 +13,10 @@ use lib.Seq.{drop-cons}
 use borrow.Author.Tests.{le-leb, lt-leb}
 use mir.Syntax.{w64}
 use mir.Val.{Fits}
-use Rattle.terms.specs.Numbers.{sum}
+use Rattle.terms.specs.Numbers.{pick, sum}
 use Rattle.terms.proofs.Sums.{one_of_sum}
-use Rattle.shares.specs.Shares.{first_draw, with_value, largest, largest_at, give_out}
-use Rattle.shares.proofs.Largest.{first_most, at_inside, one_added}
+use Rattle.shares.specs.Shares.{largest, largest_at, give_out}
+use Rattle.shares.proofs.Largest.{at_inside, one_added}
 use Rattle.shares.proofs.Giving.{raised}
 
 -- the strata from h on
@@ -24,69 +26,51 @@ strata_on l h inside = drop-cons l h 0 inside ∙ ap (λ (k : ℕ). get_or l h 0
 pub none_left : (l : List ℕ) (h : ℕ) → length l ≤ h → drop h l ≡ []
 none_left l h end = drop_of_length-le l end
 
--- `with_value`: what is counted and what is still to count make the whole
-pub record Valued (books : List ℕ) (strata h : ℕ) : Type 0 where
-  pub long : length books ≡ 32
-  pub inside : h ≤ 32
-  pub few : strata ≤ h
-  pub whole : strata + with_value (drop h books) ≡ with_value books
-
-pub valued_none : {books : List ℕ} → length books ≡ 32 → Valued books 0 0
-valued_none long = record { long = long; inside = omega arith; few = omega arith; whole = omega arith }
-
-module _ {books : List ℕ} {strata h : ℕ} (at : Valued books strata h) where
-  pub valued_next : {one : ℕ} → h < 32 → one ≡ first_draw (get_or books h 0) → Valued books (strata + one) (h + 1)
-  valued_next {one} room e =
-      let more = ap with_value (strata_on books h (omega (arith, at.long))) in
-      let most = first_most (get_or books h 0) in
-      record { long = at.long; inside = omega arith; few = omega (arith, at.few); whole = omega (arith, at.whole) }
-
-  pub valued_end : 32 ≤ h → strata ≡ with_value books
-  valued_end end = omega (arith, at.whole, ap with_value (none_left books h (omega (arith, at.long))))
-
--- `largest_at`: of the strata from h on, the largest remainder and the stratum that has it
+-- `largest_at`: the largest of the remainders before h and the stratum that has it, beside those from h on, give the whole's
 pub record Looking (remainders : List ℕ) (stratum most h : ℕ) : Type 0 where
-  pub long : length remainders ≡ 32
-  pub inside : h ≤ 32
-  pub most_is : most ≡ largest (drop h remainders)
-  pub stratum_is : stratum ≡ h + largest_at (drop h remainders)
+  pub standing : pick (leb (largest (drop h remainders)) most) stratum (h + largest_at (drop h remainders)) ≡ largest_at remainders
 
-pub looking_none : (remainders : List ℕ) → length remainders ≡ 32 → Looking remainders 32 0 32
+-- without a remainder above 0 it is the first
+first_of_none : (rs : List ℕ) → largest rs ≤ 0 → largest_at rs ≡ 0
 unfolding largest_at
-looking_none remainders long =
-    let end = none_left remainders 32 (omega arith) in
-    record { long = long; inside = omega arith; most_is = sym (ap largest end); stratum_is = omega (arith, ap largest_at end) }
+first_of_none [] h = refl
+first_of_none (r ∷ rs) h = simp (le-leb (largest rs) r (omega arith)) refl
 
-module _ {remainders : List ℕ} {stratum most h : ℕ} (at : Looking remainders stratum most h) where
-  -- the strata_on one down takes the place, or it does not
-  module _ (more : 0 < h) where
-    one_more : drop (h - 1) remainders ≡ get_or remainders (h - 1) 0 ∷ drop h remainders
-    one_more =
-        let i = at.inside in
-        let same : h - 1 + 1 ≡ h = omega arith in
-        strata_on remainders (h - 1) (omega (arith, at.long)) ∙ ap (λ (k : ℕ). get_or remainders (h - 1) 0 ∷ drop k remainders) same
+pub looking_none : (remainders : List ℕ) → Looking remainders 0 0 0
+looking_none remainders =
+    record { standing = ⊎_elim (λ (h : largest remainders ≤ 0). simp (le-leb _ _ h) (sym (first_of_none remainders h))) (λ (l : 0 < largest remainders). simp (lt-leb _ _ l) (omega arith)) (le_or_lt (largest remainders) 0) }
 
-    pub looking_takes : most ≤ get_or remainders (h - 1) 0 → Looking remainders (h - 1) (get_or remainders (h - 1) 0) (h - 1)
-    unfolding largest_at
-    looking_takes l =
-        let m = at.most_is in
-        let i = at.inside in
-        let test : largest (drop h remainders) ≤ get_or remainders (h - 1) 0 = omega arith in
-        record { long = at.long; inside = omega arith; most_is = omega (arith, ap largest one_more); stratum_is = rw one_more (simp (le-leb _ _ test) (omega arith)) }
+-- one remainder r more, after which the largest is l, a strata on: it takes the place, or it does not
+one_takes : (r l a most stratum h : ℕ) → most < r → pick (leb l r) h (h + 1 + a) ≡ pick (leb (max r l) most) stratum (h + pick (leb l r) 0 (suc a))
+one_takes r l a most stratum h more =
+    ⊎_elim
+    (λ (k : l ≤ r). simp (le-leb l r k, lt-leb (max r l) most (omega arith)) (omega arith))
+    (λ (k : r < l). simp (lt-leb l r k, lt-leb (max r l) most (omega arith)) (omega arith))
+    (le_or_lt l r)
 
-    pub looking_keeps : get_or remainders (h - 1) 0 < most → Looking remainders stratum most (h - 1)
-    unfolding largest_at
-    looking_keeps l =
-        let m = at.most_is in
-        let s = at.stratum_is in
-        let i = at.inside in
-        let test : get_or remainders (h - 1) 0 < largest (drop h remainders) = omega arith in
-        record { long = at.long; inside = omega arith; most_is = omega (arith, ap largest one_more); stratum_is = rw one_more (simp (lt-leb _ _ test) (omega arith)) }
+one_keeps : (r l a most stratum h : ℕ) → r ≤ most → pick (leb l most) stratum (h + 1 + a) ≡ pick (leb (max r l) most) stratum (h + pick (leb l r) 0 (suc a))
+one_keeps r l a most stratum h more =
+    ⊎_elim
+    (λ (k : l ≤ most). simp (le-leb l most k, le-leb (max r l) most (omega arith)) refl)
+    (λ (k : most < l). simp (lt-leb l most k, lt-leb (max r l) most (omega arith), lt-leb l r (omega arith)) (omega arith))
+    (le_or_lt l most)
 
-  pub looking_end : h ≤ 0 → stratum ≡ largest_at remainders
-  looking_end end =
-      let none : h ≡ 0 = omega arith in
-      at.stratum_is ∙ ap (λ (k : ℕ). k + largest_at (drop k remainders)) none ∙ zero-add (largest_at remainders)
+module _ {remainders : List ℕ} {stratum most h : ℕ} (seen : Looking remainders stratum most h) where
+  pub looking_takes : h < length remainders → most < get_or remainders h 0 → Looking remainders h (get_or remainders h 0) (h + 1)
+  unfolding largest_at
+  looking_takes more l =
+      let now = rw (strata_on remainders h more) at seen.standing in
+      record { standing = one_takes (get_or remainders h 0) (largest (drop (h + 1) remainders)) (largest_at (drop (h + 1) remainders)) most stratum h l ∙ now }
+
+  pub looking_keeps : h < length remainders → get_or remainders h 0 ≤ most → Looking remainders stratum most (h + 1)
+  unfolding largest_at
+  looking_keeps more l =
+      let now = rw (strata_on remainders h more) at seen.standing in
+      record { standing = one_keeps (get_or remainders h 0) (largest (drop (h + 1) remainders)) (largest_at (drop (h + 1) remainders)) most stratum h l ∙ now }
+
+  pub looking_end : length remainders ≤ h → stratum ≡ largest_at remainders
+  unfolding largest_at
+  looking_end end = let now = rw (none_left remainders h end) at seen.standing in simp (le-leb 0 most (omega arith)) at now
 
 -- `give_out`: giving out what is left from here gives what giving out the whole does
 pub record Handing (before from : List ℕ) (leftover : ℕ) (draws remainders : List ℕ) (left : ℕ) : Type 0 where
@@ -94,9 +78,6 @@ pub record Handing (before from : List ℕ) (leftover : ℕ) (draws remainders :
   pub beside : length remainders ≡ 32
   pub fits : sum draws + left < 2 ^ 64
   pub same : give_out left remainders draws ≡ give_out leftover from before
-
-pub handing_none : {before from : List ℕ} {leftover : ℕ} → length before ≡ 32 → length from ≡ 32 → sum before + leftover < 2 ^ 64 → Handing before from leftover before from leftover
-handing_none long beside fits = record { long = long; beside = beside; fits = fits; same = refl }
 
 give_next : (left : ℕ) (remainders draws : List ℕ) → 0 < left →
     give_out (left - 1) (set remainders (largest_at remainders) 0) (raised draws (largest_at remainders)) ≡ give_out left remainders draws

@@ -7,6 +7,8 @@ ghost use Rattle.terms.specs.Numbers.{sum};
 ghost use Rattle.shares.specs.Shares.{first_draw, with_value, draws_before, remainder_of, largest_at, give_out, shares_of};
 ghost use Rattle.shares.specs.Steps.{Shareable, Portionable, PortionsOf};
 
+use terms::MOST_STRATA;
+
 // A stratum's draws before any leftover draw, and its remainder.
 #[derive(Clone, Copy)]
 struct Portion {
@@ -14,12 +16,30 @@ struct Portion {
     remainder: u64,
 }
 
-// The same of all strata, and how many draws are left over.
+// The same of all strata, and how many draws are left over. Two arrays side by side: what is answered is the draws, whole.
 #[derive(Clone, Copy)]
 struct Portions {
-    draws: [u64; 32],
-    remainders: [u64; 32],
+    draws: [u64; MOST_STRATA],
+    remainders: [u64; MOST_STRATA],
     leftover: u64,
+}
+
+impl Portions {
+    // The leftover draws, one each to the largest remainders.
+    #[tactic(auto, using(crate::proofs::Largest::at_inside, crate::proofs::Loops::handed_fits, crate::proofs::Loops::handing_end))]
+    fn give_out(self) -> [u64; MOST_STRATA]
+        requires { sum self.draws + self.leftover < 2 ^ 64 }
+        ensures { result ≡ give_out self.leftover self.remainders self.draws }
+    {
+        let mut draws = self.draws;
+        let mut remainders = self.remainders;
+        for _given in 0..self.leftover {
+            let stratum = largest_at(remainders);
+            draws[stratum] += 1;
+            remainders[stratum] = 0;
+        }
+        draws
+    }
 }
 
 // One draw for a stratum with book value.
@@ -30,45 +50,40 @@ fn first_draw(book: u64) -> u64
 }
 
 // How many strata have book value.
-pub fn with_value(books: [u64; 32]) -> u64
+pub fn with_value(books: [u64; MOST_STRATA]) -> u64
     ensures { result ≡ with_value books }
 {
-    let mut strata: u64 = 0;
-    let mut h: usize = 0;
-    while h < 32 {
-        strata += first_draw(books[h]);
-        h += 1;
-    }
-    strata
+    books.iter().filter(|book| **book > 0).count() as u64
 }
 
 // A stratum's portion: one where it has value, and the whole part of rest × book / total.
+#[tactic(auto, using(crate::proofs::Adding::portion_fits))]
 fn portion_of(book: u64, total: u64, rest: u64) -> Portion
     requires { Portionable book total rest }
     ensures { (result.draws ≡ draws_before rest total book) × (result.remainder ≡ remainder_of rest total book) }
 {
     let share = wide::scaled(rest, book, total);
-    let draws = first_draw(book) + share.whole;
-    let remainder = share.remainder;
-    Portion { draws, remainder }
+    Portion {
+        draws: first_draw(book) + share.whole,
+        remainder: share.remainder,
+    }
 }
 
 // The portions of all strata.
-fn portions_of(books: [u64; 32], total: u64, n: u64) -> Portions
+#[tactic(auto, using(crate::proofs::Portioning::portion_asks, crate::proofs::Portioning::portion_within))]
+fn portions_of(books: [u64; MOST_STRATA], total: u64, n: u64) -> Portions
     requires { Shareable books total n }
     ensures { PortionsOf books n result }
 {
     let rest = n - with_value(books);
-    let mut draws = [0u64; 32];
-    let mut remainders = [0u64; 32];
+    let mut draws = [0u64; MOST_STRATA];
+    let mut remainders = [0u64; MOST_STRATA];
     let mut leftover = n;
-    let mut h: usize = 0;
-    while h < 32 {
-        let portion = portion_of(books[h], total, rest);
+    for (h, book) in books.iter().enumerate() {
+        let portion = portion_of(*book, total, rest);
         draws[h] = portion.draws;
         remainders[h] = portion.remainder;
         leftover -= portion.draws;
-        h += 1;
     }
     Portions {
         draws,
@@ -77,48 +92,26 @@ fn portions_of(books: [u64; 32], total: u64, n: u64) -> Portions
     }
 }
 
-// The stratum with the largest remainder. The last is looked at first, so that a lower one takes its place on a tie.
-fn largest_at(remainders: [u64; 32]) -> usize
+// The stratum with the largest remainder, the lower one on a tie.
+fn largest_at(remainders: [u64; MOST_STRATA]) -> usize
     ensures { result ≡ largest_at remainders }
 {
-    let mut stratum: usize = 32;
+    let mut stratum: usize = 0;
     let mut largest: u64 = 0;
-    let mut h: usize = 32;
-    while h > 0 {
-        h -= 1;
-        let remainder = remainders[h];
-        if remainder >= largest {
-            largest = remainder;
+    for (h, remainder) in remainders.iter().enumerate() {
+        if *remainder > largest {
+            largest = *remainder;
             stratum = h;
         }
     }
     stratum
 }
 
-// The leftover draws, one each to the largest remainders.
-fn give_out(before: [u64; 32], from: [u64; 32], leftover: u64) -> [u64; 32]
-    requires { sum before + leftover < 2 ^ 64 }
-    ensures { result ≡ give_out leftover from before }
-{
-    let mut draws = before;
-    let mut remainders = from;
-    let mut left = leftover;
-    while left > 0 {
-        let stratum = largest_at(remainders);
-        draws[stratum] += 1;
-        remainders[stratum] = 0;
-        left -= 1;
-    }
-    draws
-}
-
 // The draws of each stratum. `total` is that of the book values, and each stratum with value can have a draw.
-pub fn share_out(books: [u64; 32], total: u64, n: u64) -> [u64; 32]
+#[tactic(auto, using(crate::proofs::Portioning::portions_make))]
+pub fn share_out(books: [u64; MOST_STRATA], total: u64, n: u64) -> [u64; MOST_STRATA]
     requires { Shareable books total n }
     ensures { result ≡ shares_of books n }
 {
-    let portions = portions_of(books, total, n);
-    let draws = portions.draws;
-    let remainders = portions.remainders;
-    give_out(draws, remainders, portions.leftover)
+    portions_of(books, total, n).give_out()
 }

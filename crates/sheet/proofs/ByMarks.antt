@@ -21,8 +21,8 @@ use Rattle.project.specs.declared.Line.{Line}
 use Rattle.project.specs.Project.{lines_with}
 use Rattle.project.proofs.Lines.{lines_length}
 use Rattle.blackboard.specs.declared.Walker.{Walker}
-use Rattle.blackboard.specs.Board.{stop_at, board_marks}
-use Rattle.blackboard.specs.Steps.{mark_where, walker_after}
+use Rattle.blackboard.specs.Board.{board_marks}
+use Rattle.blackboard.specs.Steps.{mark_where, walker_at, walker_after}
 use Rattle.blackboard.proofs.Standing.{Standing, standing_first, standing_on, standing_mark, standing_drawn}
 use Rattle.boardjudge.specs.Marked.{marked_line, MarkFits, Walkable}
 use Rattle.boardjudge.proofs.Marks.{line_on}
@@ -73,13 +73,13 @@ pub record Walked (J start : ℕ) (ledger : List ℕ) (errors : List ℤ) (old :
   pub stands : Standing J start ledger item walker
   pub left : Left old at (ledger_text 0 J start ledger errors) new to (walked_rest J start ledger errors item)
 
-pub walked_first : {J start : ℕ} {ledger : List ℕ} {errors : List ℤ} (old : List ℕ) (at : ℕ) {first : ℕ} → Walkable J start ledger errors → first ≡ stop_at J ledger start →
-    Walked J start ledger errors old at old at (record { point = start; stop = first }) 0
-walked_first {J} {start} {ledger} {errors} old at {first} given e =
+pub walked_first : {J start : ℕ} {ledger : List ℕ} {errors : List ℤ} (old : List ℕ) (at : ℕ) {walker : Walker} → Walkable J start ledger errors → walker ≡ walker_at J ledger start →
+    Walked J start ledger errors old at old at walker 0
+walked_first {J} {start} {ledger} {errors} old at {walker} given e =
     record {
       given = given;
       inside = zero-le;
-      stands = standing_first J start ledger first given.given.board given.given.early e;
+      stands = standing_first J start ledger walker given.given.board given.given.early e;
       left = record { kept = refl; same = ap (λ (text : List ℕ). write (page old at) text) (sym (walked_all_left J start ledger errors)) };
     }
 

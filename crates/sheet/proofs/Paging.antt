@@ -1,5 +1,6 @@
 -- The text of the steps' outcome, and the page that is too short and the one that is not. Assumes nothing.
 use Prim.Native.Nat.{ℕ, ◌+◌, ◌*◌, ◌≤◌, ◌<◌}
+use Rattle.std.specs.Prelude.{Result, Ok, Err}
 use native.Mathlib.Omega.{arith}
 use mathlib.Core.Path.{◌≡◌, sym, ap, ◌∙◌}
 use mathlib.Core.List.{List, ◌++◌}
@@ -9,15 +10,12 @@ use lib.ListN.{length, drop}
 use Rattle.terms.specs.declared.Refusal.{Refusal}
 use Rattle.terms.specs.declared.Refusal.TheVariants.{RoomTooShort}
 use Rattle.terms.specs.Refusals.{number, place}
-use Rattle.terms.specs.Outcome.{Outcome, accepted, refused, left}
+use Rattle.terms.specs.Outcome.{Outcome, accepted, refused, left, says}
 use Rattle.pen.specs.Page as Page
 use Rattle.pen.proofs.Writing.{as_text}
 use Rattle.workfile.specs.declared.Plan.{Plan}
 use Rattle.steps.specs.declared.Answers.{Answers}
-use Rattle.sheet.specs.declared.SheetAnswer.TheVariants.{Printed, Refused}
-use Rattle.steps.specs.declared.StepsAnswer.{StepsAnswer}
-use Rattle.steps.specs.declared.StepsAnswer.TheVariants as steps
-use Rattle.steps.specs.Steps.{steps_says, steps_of, StepsPromise, Shown}
+use Rattle.steps.specs.Steps.{steps_of, StepsPromise, Shown}
 use Rattle.steps.proofs.Accepted.{steps_shown, steps_early}
 use Rattle.sheet.specs.Lines.{answers_text, refused_line}
 use Rattle.sheet.specs.Sheet.{text_by, steps_text, desk_text, longest_text, sheet_of, SheetPromise}
@@ -32,21 +30,21 @@ unfolding steps_text
 steps_text_lem plan words ledger errors e = ap (text_by (answers_text ledger errors)) (sym e)
 
 -- as `print_content` meets the steps: what it prints of a refusal and of an answer, and what an answer has shown
-module _ (plan : Plan) (words ledger : List ℕ) (errors : List ℤ) {r : StepsAnswer} where
-  pub content_refused : {why : Refusal} {o o' : List ℕ} {a a' : ℕ} → r ≡ steps.Refused why → StepsPromise plan words ledger errors r →
+module _ (plan : Plan) (words ledger : List ℕ) (errors : List ℤ) {r : Result Answers Refusal} where
+  pub content_refused : {why : Refusal} {o o' : List ℕ} {a a' : ℕ} → r ≡ Err why → StepsPromise plan words ledger errors r →
       Page.Wrote o a (refused_line (number why) (place why)) o' a' × (length (refused_line (number why) (place why)) ≤ 50) →
       Page.Wrote o a (steps_text plan words ledger errors) o' a' × (length (steps_text plan words ledger errors) ≤ 464 + 90 * length ledger)
-  content_refused is p w = as_bounded (steps_text_lem plan words ledger errors (sym (ap steps_says is) ∙ p.answer)) (omega arith) w
+  content_refused is p w = as_bounded (steps_text_lem plan words ledger errors (sym (ap says is) ∙ p.answer)) (omega arith) w
 
-  pub content_answered : {answers : Answers} {o o' : List ℕ} {a a' : ℕ} → r ≡ steps.Answered answers → StepsPromise plan words ledger errors r →
+  pub content_answered : {answers : Answers} {o o' : List ℕ} {a a' : ℕ} → r ≡ Ok answers → StepsPromise plan words ledger errors r →
       Page.Wrote o a (answers_text ledger errors answers) o' a' × (length (answers_text ledger errors answers) ≤ 464 + 90 * length ledger) →
       Page.Wrote o a (steps_text plan words ledger errors) o' a' × (length (steps_text plan words ledger errors) ≤ 464 + 90 * length ledger)
-  content_answered is p w = as_bounded (steps_text_lem plan words ledger errors (sym (ap steps_says is) ∙ p.answer)) (omega arith) w
+  content_answered is p w = as_bounded (steps_text_lem plan words ledger errors (sym (ap says is) ∙ p.answer)) (omega arith) w
 
-  pub content_shown : {answers : Answers} → r ≡ steps.Answered answers → StepsPromise plan words ledger errors r →
+  pub content_shown : {answers : Answers} → r ≡ Ok answers → StepsPromise plan words ledger errors r →
       Shown 0 answers.figures.interval ledger errors × (answers.chosen.start ≤ answers.figures.interval)
   content_shown is p =
-      let e = sym (ap steps_says is) ∙ p.answer in
+      let e = sym (ap says is) ∙ p.answer in
       (steps_shown plan words ledger errors _ e, steps_early plan words ledger errors _ e)
 
 module _ (input page : List ℕ) where
@@ -58,11 +56,11 @@ module _ (input page : List ℕ) where
   unfolding sheet_of
   long h = simp (le-ltb _ _ h)
 
-  pub page_short : length page < longest_text → SheetPromise input page (Refused (RoomTooShort longest_text)) page
+  pub page_short : length page < longest_text → SheetPromise input page (Err (RoomTooShort longest_text)) page
   page_short h =
       record { answer = sym (short h); page_left = sym (ap (left (λ bytes. desk_text input ++ drop bytes page) page) (short h)) }
 
-  pub page_long : longest_text ≤ length page → (r : ℕ) (page' : List ℕ) → Page.Printed (desk_text input) page r page' → SheetPromise input page (Printed r) page'
+  pub page_long : longest_text ≤ length page → (r : ℕ) (page' : List ℕ) → Page.Printed (desk_text input) page r page' → SheetPromise input page (Ok r) page'
   page_long h r page' p =
       record {
         answer = ap accepted p.counted ∙ sym (long h);

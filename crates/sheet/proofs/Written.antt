@@ -16,16 +16,11 @@ use Rattle.pen.proofs.Writing.{◌⨾◌, as_text, nothing, signed_read, words_l
 use Rattle.project.specs.declared.State.{State}
 use Rattle.project.specs.declared.State.TheVariants.{NotDrawn}
 use Rattle.project.specs.declared.Projection.{Projection}
-use Rattle.judge.specs.declared.Verdict.{Verdict}
 use Rattle.judge.specs.declared.Judgement.{Judgement}
 use Rattle.steps.specs.declared.Answers.{Answers}
 use Rattle.sheet.specs.Lines.{plan_line, split_line, start_line, entry_line, state_text, ledger_text, project_line, verdict_word, judge_line, opening_text, closing_text, answers_text}
 
 module _ {page : List ℕ} {at : ℕ} where
-  -- a verdict that is the arm's case, and the end of its line
-  pub word_written : {v w : Verdict} {page' : List ℕ} {at' : ℕ} → v ≡ w → Wrote page at (more (verdict_word w ∷ [])) page' at' → Wrote page at (more (verdict_word v ∷ [])) page' at'
-  word_written is w = as_text (ap (λ (verdict : Verdict). more (verdict_word verdict ∷ [])) is) w
-
   -- an error and its amount, and the net, as the last of a line
   pub signed_written : (u : Bool) (e a : ℕ) {p₁ p₂ p₃ : List ℕ} {a₁ a₂ a₃ : ℕ} → Wrote page at (32 ∷ sized_text e u) p₁ a₁ → Wrote p₁ a₁ (32 ∷ sized_text a u) p₂ a₂ →
       Wrote p₂ a₂ (10 ∷ []) p₃ a₃ → Wrote page at (more (sized_text e u ∷ sized_text a u ∷ [])) p₃ a₃
@@ -39,10 +34,7 @@ module _ {page : List ℕ} {at : ℕ} where
       Wrote p₁ a₁ (fields (i ∷ v ∷ [])) p₂ a₂ → Wrote p₂ a₂ (more (sized_text e u ∷ sized_text a u ∷ [])) p₃ a₃ → Wrote page at (entry_line word i v u e a) p₃ a₃
   entry_written word i v u e a opened placed ended = words_laid (i ∷ v ∷ []) (sized_text e u ∷ sized_text a u ∷ []) opened placed ended
 
-  -- a line's state that is the arm's case
-  pub state_written : (i v : ℕ) (u : Bool) (e : ℕ) {s t : State} {page' : List ℕ} {at' : ℕ} → s ≡ t → Wrote page at (state_text i v u e t) page' at' → Wrote page at (state_text i v u e s) page' at'
-  state_written i v u e is w = as_text (ap (state_text i v u e) is) w
-
+  -- a line's state that is the arm's case: it has no text
   pub state_none : (i v : ℕ) (u : Bool) (e : ℕ) {s : State} → s ≡ NotDrawn → Wrote page at (state_text i v u e s) page at
   state_none i v u e is = as_text (ap (state_text i v u e) is) nothing
 

@@ -1,11 +1,11 @@
 -- The desk program's whole text for every input. Definitions: nothing is assumed.
-use Rattle.std.specs.Prelude.{ℕ, ◌≡◌, Bool, List, ◌++◌, eqb, ltb, ℤ, length, get_or, drop}
-use Rattle.terms.specs.Outcome.{Outcome, accepted, refused, refused_by, left}
+use Rattle.std.specs.Prelude.{ℕ, ◌≡◌, Bool, List, ◌++◌, eqb, ltb, ℤ, length, get_or, drop, Result}
+use Rattle.terms.specs.declared.Refusal.{Refusal}
+use Rattle.terms.specs.Outcome.{Outcome, accepted, refused, left, says}
 use Rattle.terms.specs.Numbers.{pick}
 use Rattle.workfile.specs.declared.Plan.{Plan}
 use Rattle.workfile.specs.Content.{Content}
 use Rattle.workfile.specs.Decode.{decode}
-use Rattle.sheet.specs.declared.SheetAnswer.{SheetAnswer}
 use Rattle.steps.specs.Steps.{steps_of}
 use Rattle.sheet.specs.Lines.{answers_text, refused_line}
 
@@ -41,14 +41,9 @@ desk_text input = sheet_text (file_of input)
 abbrev pub longest_text : ℕ
 longest_text = 184784
 
--- on a page of any length: what the answer says, 18 where the page is too short, and the page afterwards
-abbrev pub sheet_says : SheetAnswer → Outcome ℕ
-sheet_says (SheetAnswer.Printed bytes) = accepted bytes
-sheet_says (SheetAnswer.Refused why) = refused_by why
-
 unfoldable pub sheet_of : List ℕ → ℕ → Outcome ℕ
 sheet_of input room = pick (ltb room longest_text) (refused 18 longest_text) (accepted (length (desk_text input)))
 
-pub record SheetPromise (input page : List ℕ) (r : SheetAnswer) (page' : List ℕ) : Type 0 where
-  pub answer : sheet_says r ≡ sheet_of input (length page)
+pub record SheetPromise (input page : List ℕ) (r : Result ℕ Refusal) (page' : List ℕ) : Type 0 where
+  pub answer : says r ≡ sheet_of input (length page)
   pub page_left : page' ≡ left (λ bytes. desk_text input ++ drop bytes page) page (sheet_of input (length page))

@@ -23,9 +23,14 @@ use walk::Ahead;
 fn plan_line(pen: Pen, page: &mut [u8], planned: Planned) -> Pen
     ensures { Wrote page.old pen.at (plan_line planned) page.new result.at }
 {
-    let level = planned.level as u64;
-    let numbers = [level, planned.total, planned.te, planned.ae, planned.draws];
-    pen.line(page, b"plan", &numbers)
+    let Planned {
+        level,
+        total,
+        te,
+        ae,
+        draws,
+    } = planned;
+    pen.line(page, b"plan", &[level as u64, total, te, ae, draws])
 }
 
 fn split_line(pen: Pen, page: &mut [u8], figures: Figures) -> Pen
@@ -44,17 +49,16 @@ fn split_line(pen: Pen, page: &mut [u8], figures: Figures) -> Pen
 fn start_line(pen: Pen, page: &mut [u8], chosen: Chosen) -> Pen
     ensures { Wrote page.old pen.at (start_line chosen) page.new result.at }
 {
-    let numbers = [chosen.start, chosen.words];
-    pen.line(page, b"start", &numbers)
+    pen.line(page, b"start", &[chosen.start, chosen.words])
 }
 
 // The error and what it projects as the last of a line, with a minus where it is understated.
 fn signed_words(pen: Pen, page: &mut [u8], under: bool, error: u64, projected: u64) -> Pen
     ensures { Wrote page.old pen.at (more (sized_text error under ∷ sized_text projected under ∷ [])) page.new result.at }
 {
-    let entered = pen.sized_field(page, error, under);
-    let ended = entered.sized_field(page, projected, under);
-    ended.byte(page, 10)
+    pen.sized_field(page, error, under)
+        .sized_field(page, projected, under)
+        .byte(page, b'\n')
 }
 
 // The line of a word: item, value, error and what it projects.
@@ -69,9 +73,7 @@ fn entry_line(
 ) -> Pen
     ensures { Wrote page.old pen.at (entry_line word.now item line.value under line.error projected) page.new result.at }
 {
-    let numbers = [item, line.value];
-    let opened = pen.text(page, word);
-    let placed = opened.fields(page, &numbers);
+    let placed = pen.text(page, word).fields(page, &[item, line.value]);
     signed_words(placed, page, under, line.error, projected)
 }
 
@@ -79,8 +81,7 @@ fn entry_line(
 pub fn item_line(pen: Pen, page: &mut [u8], item: u64, under: bool, line: Line) -> Pen
     ensures { Wrote page.old pen.at (item_text item under line) page.new result.at }
 {
-    let state = line.state;
-    match state {
+    match line.state {
         State::NotDrawn => pen,
         State::Drawn(amount) => entry_line(pen, page, b"drawn", item, under, line, amount),
         State::Full => entry_line(pen, page, b"full", item, under, line, line.error),
@@ -100,8 +101,7 @@ fn ledger_line(
     requires { (size_of error ≤ value) × (interval ≤ most_interval) }
     ensures { Wrote page.old pen.at (item_text item (is_under error) (line_with Size interval next.0 value error)) page.new result.at }
 {
-    let size = signed::size_of(error);
-    let line = project::line_of(value, size, interval, next);
+    let line = project::line_of(value, signed::size_of(error), interval, next);
     item_line(pen, page, item, error < 0, line)
 }
 
@@ -120,13 +120,18 @@ pub fn ledger_lines(
 {
     let mut at = pen;
     let mut next = Ahead(start.0);
-    let mut item: usize = 0;
-    while item < ledger.len() {
-        let value = ledger[item];
+    for (item, value) in ledger.iter().enumerate() {
         let number = first.0 + item;
-        at = ledger_line(at, page, number as u64, value, errors[item], interval, next);
-        next = walk::step_over(value, interval, next);
-        item += 1;
+        at = ledger_line(
+            at,
+            page,
+            number as u64,
+            *value,
+            errors[item],
+            interval,
+            next,
+        );
+        next = walk::step_over(*value, interval, next);
     }
     at
 }
@@ -135,9 +140,8 @@ pub fn ledger_lines(
 pub fn net_word(pen: Pen, page: &mut [u8], net: i64) -> Pen
     ensures { Wrote page.old pen.at (more (signed_text net ∷ [])) page.new result.at }
 {
-    let size = signed::size_of(net);
-    let ended = pen.sized_field(page, size, net < 0);
-    ended.byte(page, 10)
+    pen.sized_field(page, signed::size_of(net), net < 0)
+        .byte(page, b'\n')
 }
 
 fn project_line(pen: Pen, page: &mut [u8], projection: Projection) -> Pen
@@ -150,8 +154,7 @@ fn project_line(pen: Pen, page: &mut [u8], projection: Projection) -> Pen
         projection.under_full,
         projection.under_sampled,
     ];
-    let opened = pen.text(page, b"project");
-    let summed = opened.fields(page, &numbers);
+    let summed = pen.text(page, b"project").fields(page, &numbers);
     net_word(summed, page, projection.net)
 }
 
@@ -169,11 +172,11 @@ fn verdict_word(pen: Pen, page: &mut [u8], verdict: Verdict) -> Pen
 fn judge_line(pen: Pen, page: &mut [u8], judgement: Judgement) -> Pen
     ensures { Wrote page.old pen.at (judge_line judgement) page.new result.at }
 {
-    let verdict = judgement.verdict;
-    let opened = pen.text(page, b"judge");
-    let precise = opened.field(page, judgement.precision);
-    let limited = precise.field(page, judgement.upper_limit);
-    verdict_word(limited, page, verdict)
+    let limited = pen
+        .text(page, b"judge")
+        .field(page, judgement.precision)
+        .field(page, judgement.upper_limit);
+    verdict_word(limited, page, judgement.verdict)
 }
 
 // The one line of a refusal.
@@ -181,9 +184,8 @@ pub fn refused_line(pen: Pen, page: &mut [u8], why: Refusal) -> Pen
     ensures wrote { Wrote page.old pen.at (refused_line (number why) (place why)) page.new result.at }
     ensures why_len_bound { length (refused_line (number why) (place why)) ≤ 50 }
 {
-    let told = terms::tell(why);
-    let numbers = [told.number, told.place];
-    pen.line(page, b"refused", &numbers)
+    let told = why.tell();
+    pen.line(page, b"refused", &[told.number, told.place])
 }
 
 // The lines before those of the ledger.

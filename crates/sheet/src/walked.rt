@@ -9,9 +9,8 @@ ghost use Rattle.boardjudge.specs.Marked.{marked_line, MarkFits, Walkable};
 ghost use Rattle.sheet.specs.Lines.{item_text, ledger_text};
 
 use crate::lines::{item_line, ledger_lines};
-use blackboard::Walker;
-use blackboard::points::count_off;
-use blackboard::sums::{mark_where, walk_on};
+use blackboard::Board;
+use blackboard::sums::mark_where;
 use pen::Pen;
 use terms::{Cent, Item};
 
@@ -28,34 +27,29 @@ fn walked_line(
     requires { MarkFits interval value (size_of error) mark }
     ensures { Wrote page.old pen.at (item_text item (is_under error) (marked_line interval value (part_of Size error) mark)) page.new result.at }
 {
-    let size = signed::size_of(error);
-    let line = boardjudge::marked_line(value, size, interval, mark);
+    let line = boardjudge::marked_line(value, signed::size_of(error), interval, mark);
     item_line(pen, page, item, error < 0, line)
 }
 
 // The drawn and full lines, in ledger order.
-fn walked_lines(
-    pen: Pen,
-    page: &mut [u8],
-    ledger: &[u64],
-    errors: &[i64],
-    interval: u64,
-    start: Cent,
-) -> Pen
-    requires { Walkable interval start.0 ledger.now errors.now }
-    ensures { Wrote page.old pen.at (ledger_text 0 interval start.0 ledger.now errors.now) page.new result.at }
+fn walked_lines(pen: Pen, page: &mut [u8], board: Board, errors: &[i64], start: Cent) -> Pen
+    requires { Walkable board.interval start.0 board.ledger.now errors.now }
+    ensures { Wrote page.old pen.at (ledger_text 0 board.entry.interval start.0 board.entry.ledger.now errors.now) page.new result.at }
 {
-    let point = start.0;
-    let stop = count_off(ledger, interval, point);
-    let mut walker = Walker { point, stop };
+    let mut walker = board.walker_at(start.0);
     let mut at = pen;
-    let mut item: usize = 0;
-    while item < ledger.len() {
-        let value = ledger[item];
-        let mark = mark_where(value, interval, item, walker.stop);
-        at = walked_line(at, page, item as u64, value, errors[item], interval, mark);
-        walker = walk_on(ledger, interval, walker, item);
-        item += 1;
+    for (item, value) in board.ledger.iter().enumerate() {
+        let mark = mark_where(*value, board.interval, item, walker.stop);
+        at = walked_line(
+            at,
+            page,
+            item as u64,
+            *value,
+            errors[item],
+            board.interval,
+            mark,
+        );
+        walker = board.walk_on(walker, item);
     }
     at
 }
@@ -74,7 +68,8 @@ pub fn lines_by(
     ensures { Wrote page.old pen.at (ledger_text 0 interval start.0 ledger.now errors.now) page.new result.at }
 {
     if board {
-        return walked_lines(pen, page, ledger, errors, interval, start);
+        walked_lines(pen, page, Board { ledger, interval }, errors, start)
+    } else {
+        ledger_lines(pen, page, Item(0), ledger, errors, interval, start)
     }
-    ledger_lines(pen, page, Item(0), ledger, errors, interval, start)
 }

@@ -4,13 +4,12 @@ use mathlib.Core.List.{List}
 use Prim.Native.Nat.{ℕ, ◌-◌, ◌/◌, ◌≤◌, ◌<◌}
 use native.Mathlib.Nat.{le_refl}
 use native.Mathlib.Omega.{arith}
-use borrow.Author.Tests.{eq-eqb, ne_eqb}
+use borrow.Author.Tests.{eq-eqb}
 use lib.ListN.{length}
-use Rattle.terms.specs.Outcome.{accepted, refused}
+use Rattle.terms.specs.Outcome.{refused}
 use Rattle.terms.specs.Numbers.{sum}
 use Rattle.split.specs.Rounds.{above, Rest, split_lines}
 use Rattle.split.specs.Split.{Totalled, figures_of, figures_from}
-use Rattle.split.specs.declared.Figures.{Figures}
 use Rattle.split.proofs.Lines.{sum_parts}
 use Rattle.split.proofs.Laws.{Settled, settles}
 
@@ -22,10 +21,6 @@ split_settles ledger n some = settles n ledger n some (le_refl n)
 pub no_draws : (ledger : List ℕ) (n : ℕ) → n ≡ 0 → refused 8 0 ≡ figures_from ledger n
 unfolding figures_from
 no_draws ledger n e = sym (simp (eq-eqb _ _ e))
-
-pub with_draws : (ledger : List ℕ) (n : ℕ) {f : Figures} → (n ≡ 0 → ⊥) → f ≡ figures_of ledger (split_lines ledger n) → accepted f ≡ figures_from ledger n
-unfolding figures_from
-with_draws ledger n some e = ap accepted e ∙ sym (simp (ne_eqb _ _ some))
 
 -- where the recursion has answered d draws and left the total s
 module _ {ledger : List ℕ} {n t d s : ℕ} (at : Totalled ledger t) (some : 0 < n) (draws : d ≡ (split_lines ledger n).draws) (sampled : s ≡ sum (split_lines ledger n).lines) where

@@ -8,21 +8,18 @@ use native.Mathlib.Omega.{arith}
 use borrow.Author.Tests.{eqb-false, ne_eqb}
 use lib.Dec.{ltb, eqb}
 use lib.ListN.{length}
+use Rattle.std.specs.Prelude.{Result, Ok}
 use Rattle.terms.specs.declared.Refusal.{Refusal}
-use Rattle.terms.specs.Outcome.{Outcome, accepted, after, left}
+use Rattle.terms.specs.Outcome.{Outcome, accepted, after, says}
 use Rattle.terms.specs.Numbers.{sum}
 use Rattle.terms.specs.Limits.{most_interval}
 use Rattle.terms.proofs.Outcomes.{never, after_accepted, Gives, gives_after, gives_among}
 use Rattle.terms.proofs.Tests.{by_test}
-use Rattle.ledger.specs.declared.LedgerAnswer.{LedgerAnswer}
-use Rattle.ledger.specs.declared.LedgerAnswer.TheVariants as judged
-use Rattle.ledger.specs.Ledger.{ledger_says, ledger_of, LedgerPromise}
+use Rattle.ledger.specs.Ledger.{ledger_of, LedgerPromise}
 use Rattle.ledger.proofs.Laws.{Good, good, ledger_numbers, ledger_gives}
 use Rattle.split.specs.Rounds.{above, up_to, interval_of, Rest, split_lines, intervals, becomes_full}
-use Rattle.split.specs.Split.{split_says, Totalled, figures_of, figures_from, split_of, full_marks, marks_of, KeepsDraw, FiguresPromise, SplitPromise}
+use Rattle.split.specs.Split.{Totalled, figures_of, figures_from, split_of, KeepsDraw, FiguresPromise}
 use Rattle.split.specs.declared.Figures.{Figures}
-use Rattle.split.specs.declared.SplitAnswer.{SplitAnswer}
-use Rattle.split.specs.declared.SplitAnswer.TheVariants.{Split, Refused}
 use Rattle.split.proofs.Lines.{sum_parts, up_to_zero}
 use Rattle.split.proofs.Intervals.{full_exactly}
 use Rattle.split.proofs.Answer.{split_settles, no_draws}
@@ -113,29 +110,18 @@ pub totalled : (ledger : List ℕ) (beside total : ℕ) → accepted total ≡ l
 totalled ledger beside total e = let g = good ledger beside total (sym e) in record { added = g.added; most = g.most }
 
 -- as `split_figures` meets it
-figures_promised : {ledger : List ℕ} {n beside : ℕ} {r : SplitAnswer} → split_says r ≡ split_of ledger n beside → FiguresPromise ledger n beside r
+figures_promised : {ledger : List ℕ} {n beside : ℕ} {r : Result Figures Refusal} → says r ≡ split_of ledger n beside → FiguresPromise ledger n beside r
 figures_promised {ledger} {n} {beside} e = record { answer = e; draw_kept = keeps_draw ledger n beside e }
 
-module _ {ledger : List ℕ} {n beside : ℕ} {r : LedgerAnswer} where
-  pub judged_refused : {why : Refusal} → r ≡ judged.Refused why → LedgerPromise ledger beside r → FiguresPromise ledger n beside (Refused why)
-  judged_refused is e = figures_promised (from_ledger ledger n beside (sym (ap ledger_says is) ∙ e.answer))
+pub judged_asked : {ledger : List ℕ} {beside total : ℕ} → LedgerPromise ledger beside (Ok total) → Totalled ledger total
+judged_asked {ledger} {beside} {total} p = totalled ledger beside total p.answer
 
-  pub judged_split : {total : ℕ} {a : SplitAnswer} → r ≡ judged.Total total → LedgerPromise ledger beside r → split_says a ≡ figures_from ledger n → FiguresPromise ledger n beside a
-  judged_split is e s = figures_promised (s ∙ from_ledger ledger n beside (sym (ap ledger_says is) ∙ e.answer))
+pub judged_split : {ledger : List ℕ} {n beside total : ℕ} {r : Result Figures Refusal} → LedgerPromise ledger beside (Ok total) → says r ≡ figures_from ledger n → FiguresPromise ledger n beside r
+judged_split {ledger} {n} {beside} p e = figures_promised (e ∙ from_ledger ledger n beside p.answer)
 
-pub judged_asked : {ledger : List ℕ} {beside total : ℕ} {r : LedgerAnswer} → r ≡ judged.Total total → LedgerPromise ledger beside r → Totalled ledger total
-judged_asked {ledger} {beside} {total} is e = totalled ledger beside total (sym (ap ledger_says is) ∙ e.answer)
-
--- as `split` meets it
-module _ {ledger : List ℕ} {n : ℕ} {marks : List ℕ} {r : SplitAnswer} where
-  pub marks_kept : {why : Refusal} → r ≡ Refused why → FiguresPromise ledger n (length marks) r → SplitPromise ledger n marks (Refused why) marks
-  marks_kept is p = let e = sym (ap split_says is) ∙ p.answer in record { answer = e; draw_kept = keeps_draw ledger n (length marks) e; marks_left = ap (left (marks_of ledger) marks) e }
-
-  pub split_marked : {f : Figures} {marks' : List ℕ} → r ≡ Split f → FiguresPromise ledger n (length marks) r → marks' ≡ full_marks f.interval ledger → SplitPromise ledger n marks (Split f) marks'
-  split_marked is p m = let e = sym (ap split_says is) ∙ p.answer in record { answer = e; draw_kept = keeps_draw ledger n (length marks) e; marks_left = m ∙ ap (left (marks_of ledger) marks) e }
-
-pub split_same : {ledger : List ℕ} {n beside : ℕ} {r : SplitAnswer} {f : Figures} → r ≡ Split f → FiguresPromise ledger n beside r → beside ≡ length ledger
-split_same {ledger} {n} {beside} {r} {f} is p = (split_facts ledger n beside f (sym p.answer ∙ ap split_says is)).ledger_good.same
+-- and `split`
+pub split_same : {ledger : List ℕ} {n beside : ℕ} {f : Figures} → FiguresPromise ledger n beside (Ok f) → beside ≡ length ledger
+split_same {ledger} {n} {beside} {f} p = (split_facts ledger n beside f (sym p.answer)).ledger_good.same
 
 -- the refusals that the split gives: 8 only without draws
 abbrev pub split_numbers : List ℕ

@@ -1,7 +1,7 @@
 -- A start against the split's interval: what follows from the split's outcome, what is known where the start fits, and which refusals are
 -- given. Assumes nothing.
 use mathlib.Core.Path.{◌≡◌, refl, sym, ap, ◌∙◌}
-use mathlib.Core.Bool.{Bool, true, false}
+use mathlib.Core.Bool.{Bool, true}
 use mathlib.Core.List.{List, [], ◌∷◌, ◌++◌}
 use mathlib.Core.Logic.{⊎_elim}
 use Prim.Native.Nat.{ℕ, ◌≤◌, ◌<◌}
@@ -9,16 +9,15 @@ use native.Mathlib.Nat.{eq-zero-or-pos}
 use native.Mathlib.Omega.{arith}
 use borrow.Author.Tests.{ltb-true, eqb-true, lt-ltb, le-ltb, eq-eqb, ne_eqb}
 use lib.Dec.{eqb}
+use Rattle.std.specs.Prelude.{Result}
 use Rattle.terms.specs.declared.Refusal.{Refusal}
-use Rattle.terms.specs.Outcome.{Outcome, accepted, refused, refused_by, after}
+use Rattle.terms.specs.Outcome.{Outcome, accepted, refused, after, says}
 use Rattle.terms.specs.Numbers.{pick}
 use Rattle.terms.proofs.Outcomes.{never, after_accepted, Gives, gives_after, gives_among}
 use Rattle.terms.proofs.Tests.{by_test}
 use Rattle.ledger.specs.Ledger.{ledger_of}
 use Rattle.split.specs.declared.Figures.{Figures}
-use Rattle.split.specs.declared.SplitAnswer.{SplitAnswer}
-use Rattle.split.specs.declared.SplitAnswer.TheVariants.{Split, Refused}
-use Rattle.split.specs.Split.{split_says, figures_from, split_of, FiguresPromise}
+use Rattle.split.specs.Split.{split_of}
 use Rattle.split.specs.Start.{start_fits, start_in, figures_at, figures_for, FiguresForPromise}
 use Rattle.split.proofs.Facts.{SplitFacts, split_facts, split_numbers, split_gives, from_ledger}
 
@@ -32,17 +31,7 @@ pub from_total : (ledger : List ℕ) (n start beside total : ℕ) → accepted t
 unfolding figures_at
 from_total ledger n start beside total e = from_split ledger n start beside (from_ledger ledger n beside e)
 
--- as `figures_at` meets it
-module _ (ledger : List ℕ) (n start : ℕ) {r : SplitAnswer} where
-  pub at_refused : {why : Refusal} → r ≡ Refused why → split_says r ≡ figures_from ledger n → refused_by why ≡ figures_at ledger n start
-  unfolding figures_at
-  at_refused is e = ap (after (start_in start)) (sym (ap split_says is) ∙ e)
-
-  pub at_start : {f : Figures} {o : Outcome Figures} → r ≡ Split f → split_says r ≡ figures_from ledger n → o ≡ start_in start f → o ≡ figures_at ledger n start
-  unfolding figures_at
-  at_start is e s = s ∙ ap (after (start_in start)) (sym (ap split_says is) ∙ e)
-
--- where the start stands to the interval, as `start_fits` meets it
+-- where the start stands to the interval, as `start_fits_lem` meets it
 module _ (start J : ℕ) where
   pub fits_below : start < J → true ≡ start_fits start J
   fits_below h =
@@ -59,13 +48,10 @@ module _ (start J : ℕ) where
       sym (simp (ne_eqb _ _ some, le-ltb _ _ h, ne_eqb _ _ late)))
       (eq-zero-or-pos J)
 
--- and as `start_in` does
+-- and as a start inside is accepted
 module _ (start : ℕ) (f : Figures) {fits : Bool} (is : fits ≡ start_fits start f.interval) where
   pub start_inside : fits ≡ true → accepted f ≡ start_in start f
   start_inside e = ap (λ (b : Bool). pick b (accepted f) (refused 11 0)) (sym e ∙ is)
-
-  pub start_outside : fits ≡ false → refused 11 0 ≡ start_in start f
-  start_outside e = ap (λ (b : Bool). pick b (accepted f) (refused 11 0)) (sym e ∙ is)
 
 -- what an accepted start gives
 pub record StartFacts (ledger : List ℕ) (n start beside : ℕ) (f : Figures) : Type 0 where
@@ -92,16 +78,9 @@ start_facts ledger n start beside f e =
     (λ p h. never h) a.2
 
 -- as `figures_for` meets it: the split keeps a draw, whatever the start
-for_promised : {ledger : List ℕ} {n start beside : ℕ} {r : SplitAnswer} → split_says r ≡ figures_for ledger n start beside → FiguresForPromise ledger n start beside r
+pub for_promised : {ledger : List ℕ} {n start beside : ℕ} {r : Result Figures Refusal} → says r ≡ figures_for ledger n start beside → FiguresForPromise ledger n start beside r
 for_promised {ledger} {n} {start} {beside} e =
     record { answer = e; draw_kept = λ f h. omega (arith, (start_facts ledger n start beside f (sym e ∙ h)).facts.a_draw) }
-
-module _ {ledger : List ℕ} {n start : ℕ} {r : SplitAnswer} where
-  pub for_refused : {beside : ℕ} {why : Refusal} → r ≡ Refused why → FiguresPromise ledger n beside r → FiguresForPromise ledger n start beside (Refused why)
-  for_refused is p = for_promised (from_split ledger n start _ (sym (ap split_says is) ∙ p.answer))
-
-  pub for_start : {beside : ℕ} {f : Figures} {a : SplitAnswer} → r ≡ Split f → FiguresPromise ledger n beside r → split_says a ≡ start_in start f → FiguresForPromise ledger n start beside a
-  for_start is p s = for_promised (s ∙ from_split ledger n start _ (sym (ap split_says is) ∙ p.answer))
 
 -- a start below the interval is accepted, and so is 0 where there is none
 pub start_accepted : (ledger : List ℕ) (n start beside : ℕ) (f : Figures) → split_of ledger n beside ≡ accepted f → start < f.interval → figures_for ledger n start beside ≡ accepted f

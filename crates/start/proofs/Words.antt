@@ -1,18 +1,14 @@
 -- The cases of `first_from` and of `start_of`, as the loop over the words and the chain of tests meet them. Assumes nothing.
-use mathlib.Core.Path.{◌≡◌, refl, sym, ◌∙◌, subst⁻¹}
+use mathlib.Core.Path.{◌≡◌, refl, sym, ◌∙◌}
 use mathlib.Core.List.{List}
-use Prim.Native.Nat.{ℕ, ◌+◌, ◌-◌, ◌%◌, ◌^◌, ◌≤◌, ◌<◌}
+use Prim.Native.Nat.{ℕ, ◌+◌, ◌%◌, ◌≤◌, ◌<◌}
 use native.Mathlib.Numerals.{add-one}
 use native.Mathlib.Omega.{arith}
 use lib.ListN.{length, get_or, drop, drop_of_length-le}
-use lib.Pow.{pow_pos}
 use lib.Seq.{drop-cons}
-use borrow.Author.Tests.{lt-ltb, le-ltb, le-leb, lt-leb}
-use Rattle.terms.specs.declared.Refusal.{Refusal}
-use Rattle.terms.specs.Limits.{most_interval}
+use borrow.Author.Tests.{lt-ltb, le-ltb}
 use Rattle.terms.specs.Outcome.{accepted, refused}
-use Rattle.start.specs.declared.StartAnswer.{StartAnswer}
-use Rattle.start.specs.Start.{bits, first_from, start_says, start_of, StartPromise}
+use Rattle.start.specs.Start.{first_from}
 
 -- where `first_below` stands: going on from here gives what the whole gives
 pub record ReadingWords (J range : ℕ) (l : List ℕ) (i : ℕ) : Type 0 where
@@ -34,21 +30,3 @@ module _ {J range : ℕ} {l : List ℕ} {i : ℕ} (at : ReadingWords J range l i
   pub ends : length l ≤ i → refused 12 i ≡ first_from J range 0 l
   unfolding first_from
   ends h = sym (rw (drop_of_length-le l h)) ∙ at.rest
-
--- the chain of tests of `start`
-module _ {J : ℕ} {words : List ℕ} where
-  pub too_large : most_interval < J → StartPromise J words (StartAnswer.Refused Refusal.IntervalTooLarge)
-  unfolding start_of
-  too_large h = record { answer = simp (lt-ltb _ _ h) }
-
-  module _ (most : J ≤ most_interval) where
-    pub no_choice : J ≤ 1 → StartPromise J words (StartAnswer.Started (record { start = 0; words = 0 }))
-    unfolding start_of
-    no_choice h = record { answer = simp (le-ltb _ _ most, le-leb _ _ h) }
-
-    pub chosen : {range : ℕ} {r : StartAnswer} → 1 < J → range ≡ 2 ^ bits (J - 1) → start_says r ≡ first_from J range 0 words → StartPromise J words r
-    unfolding start_of
-    chosen h e f = record { answer = f ∙ simp (e, le-ltb _ _ most, lt-leb _ _ h) }
-
-pub some_range : {range : ℕ} (w : ℕ) → range ≡ 2 ^ w → 0 < range
-some_range w e = subst⁻¹ (λ (n : ℕ). 0 < n) e (pow_pos _)

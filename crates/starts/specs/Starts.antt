@@ -1,12 +1,12 @@
 -- The starts of the strata from the words in their order, one stratum after the other. Definitions: nothing is assumed.
-use Rattle.std.specs.Prelude.{ℕ, ◌+◌, ◌≡◌, List, [], ◌∷◌, map, length, drop}
-use Rattle.terms.specs.Outcome.{Outcome, accepted, refused, after, left}
+use Rattle.std.specs.Prelude.{ℕ, ◌+◌, ◌≡◌, List, [], ◌∷◌, map, length, drop, Result}
+use Rattle.terms.specs.Outcome.{Outcome, accepted, refused, after, says}
+use Rattle.terms.specs.declared.Refusal.{Refusal}
 use Rattle.terms.specs.Numbers.{pad_to}
 use Rattle.terms.specs.Limits.{most_strata}
 use Rattle.start.specs.declared.Chosen.{Chosen}
 use Rattle.start.specs.Start.{start_of}
 use Rattle.strata.specs.declared.Row.{Row}
-use Rattle.strata.specs.Strata.{strata_says}
 use Rattle.starts.specs.declared.Starts.{Starts}
 
 -- a stratum's start, or 12 with all the words lent: an interval of a plan is refused for nothing else (`twelve_alone` of proofs/Laws.antt)
@@ -34,12 +34,10 @@ starts_in all = map (λ (chosen : Chosen). chosen.start) all
 abbrev pub words_in : List Chosen → List ℕ
 words_in all = map (λ (chosen : Chosen). chosen.words) all
 
--- those of an outcome; a refused call has none
-abbrev pub chosen_in : Outcome (List Chosen) → List Chosen
-chosen_in o = left (λ all. all) [] o
+-- how many there are, the starts and the words read, all 0 past the last
+abbrev pub starts_with : List Chosen → Starts
+starts_with all = record { strata = length all; starts = pad_to most_strata 0 (starts_in all); words = pad_to most_strata 0 (words_in all) }
 
--- what `starts_of` promises: how many there are, the starts and the words read, all 0 past the last and where the call is refused
-pub record StartsPromise (o : Outcome (List Chosen)) (r : Starts) : Type 0 where
-  pub answer : strata_says r.answer ≡ after (λ all. accepted (length all)) o
-  pub starts : r.starts ≡ pad_to most_strata 0 (starts_in (chosen_in o))
-  pub words : r.words ≡ pad_to most_strata 0 (words_in (chosen_in o))
+-- what `starts_of` promises; a refused call has no start
+abbrev pub StartsPromise : Outcome (List Chosen) → Result Starts Refusal → Type 0
+StartsPromise o r = says r ≡ after (λ all. accepted (starts_with all)) o

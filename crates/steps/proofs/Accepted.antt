@@ -1,12 +1,14 @@
 -- Where all steps accept, the interval is within its maximum, a draw is left and no error exceeds its line's value. Assumes nothing.
 use Prim.Native.Nat.{ℕ, ◌≤◌, ◌<◌}
+use Rattle.terms.specs.declared.Refusal.{Refusal}
+use Rattle.std.specs.Prelude.{Result}
 use mathlib.Core.Path.{◌≡◌, sym, ap, ◌∙◌}
 use mathlib.Core.List.{List}
 use mathlib.Core.Logic.{⊎_elim}
 use native.Mathlib.Omega.{arith}
 use lib.IntN.{ℤ}
 use lib.ListN.{length}
-use Rattle.terms.specs.Outcome.{accepted}
+use Rattle.terms.specs.Outcome.{accepted, says}
 use Rattle.terms.proofs.Outcomes.{after_accepted}
 use Rattle.terms.proofs.Tests.{le_or_lt}
 use Rattle.factors.specs.Levels.{level_of}
@@ -23,8 +25,7 @@ use Rattle.judge.proofs.Laws.{judge_facts}
 use Rattle.workfile.specs.declared.Plan.{Plan}
 use Rattle.steps.specs.declared.Planned.{Planned}
 use Rattle.steps.specs.declared.Answers.{Answers}
-use Rattle.steps.specs.declared.StepsAnswer.{StepsAnswer}
-use Rattle.steps.specs.Steps.{planned_with, answers_with, judged_from, started_from, split_from, sized_from, totalled_from, steps_of, steps_says, StepsPromise, Shown}
+use Rattle.steps.specs.Steps.{planned_with, answers_with, judged_from, started_from, split_from, sized_from, totalled_from, steps_of, StepsPromise, Shown}
 
 -- the start that was chosen lies within the interval
 start_early : (J : ℕ) (words : List ℕ) (s : Chosen) → start_of J words ≡ accepted s → s.start ≤ J
@@ -72,5 +73,5 @@ pub steps_early : (plan : Plan) (words ledger : List ℕ) (errors : List ℤ) (a
 steps_early plan words ledger errors a e = (steps_accepted plan words ledger errors a e).2
 
 -- as `steps` meets it
-pub steps_promised : {plan : Plan} {words ledger : List ℕ} {errors : List ℤ} {r : StepsAnswer} → steps_says r ≡ steps_of plan words ledger errors → StepsPromise plan words ledger errors r
+pub steps_promised : {plan : Plan} {words ledger : List ℕ} {errors : List ℤ} {r : Result Answers Refusal} → says r ≡ steps_of plan words ledger errors → StepsPromise plan words ledger errors r
 steps_promised {plan} {words} {ledger} {errors} e = record { answer = e; draw_kept = λ a h. (steps_accepted plan words ledger errors a (sym h ∙ e)).1 }

@@ -1,6 +1,8 @@
 -- The promise leaves no freedom: any two answers that meet it agree. And which refusals the steps give on the content of a legal file.
 -- Assumes nothing.
 use Prim.Native.Nat.{ℕ, ◌≤◌, ◌<◌}
+use Rattle.terms.specs.declared.Refusal.{Refusal}
+use Rattle.std.specs.Prelude.{Result}
 use native.Mathlib.Omega.{arith}
 use mathlib.Core.Path.{◌≡◌, refl, sym, ap, ◌∙◌}
 use mathlib.Core.List.{List, [], ◌∷◌}
@@ -8,7 +10,7 @@ use mathlib.Core.Logic.{⊎_elim}
 use lib.IntN.{ℤ}
 use lib.ListN.{length}
 use Rattle.terms.specs.Outcome.{Outcome, accepted, refused, after}
-use Rattle.terms.proofs.Answers.{Made, good, bad, one_answer}
+use Rattle.terms.proofs.Answers.{says_once}
 use Rattle.terms.proofs.Outcomes.{Gives, gives_after, gives_among}
 use Rattle.terms.proofs.Tests.{le_or_lt}
 use Rattle.factors.specs.Levels.{level_of}
@@ -31,17 +33,11 @@ use Rattle.workfile.specs.declared.Plan.{Plan}
 use Rattle.workfile.specs.Content.{Content, most_file_lines}
 use Rattle.workfile.specs.Decode.{decode}
 use Rattle.workfile.proofs.OneFile.{read_counts}
-use Rattle.steps.specs.declared.Planned.{Planned}
-use Rattle.steps.specs.declared.StepsAnswer.{StepsAnswer}
-use Rattle.steps.specs.declared.StepsAnswer.TheVariants.{Answered, Refused}
-use Rattle.steps.specs.Steps.{steps_says, StepsPromise, planned_with, answers_with, judged_from, started_from, split_from, sized_from, totalled_from, steps_of}
+use Rattle.steps.specs.declared.{Planned.Planned, Answers.Answers}
+use Rattle.steps.specs.Steps.{StepsPromise, planned_with, answers_with, judged_from, started_from, split_from, sized_from, totalled_from, steps_of}
 
-made : (r : StepsAnswer) → Made Answered Refused r
-made (Answered a) = good a
-made (Refused why) = bad why
-
-pub steps_once : {plan : Plan} {words ledger : List ℕ} {errors : List ℤ} {r₁ r₂ : StepsAnswer} → StepsPromise plan words ledger errors r₁ → StepsPromise plan words ledger errors r₂ → r₁ ≡ r₂
-steps_once {r₁ = r₁} {r₂ = r₂} p q = one_answer steps_says Answered Refused (λ a. refl) (λ why. refl) made r₁ r₂ p.answer q.answer
+pub steps_once : {plan : Plan} {words ledger : List ℕ} {errors : List ℤ} {r₁ r₂ : Result Answers Refusal} → StepsPromise plan words ledger errors r₁ → StepsPromise plan words ledger errors r₂ → r₁ ≡ r₂
+steps_once {r₁ = r₁} {r₂ = r₂} p q = says_once r₁ r₂ p.answer q.answer
 
 -- a step that starts with another gives what either gives, the second from what the first has accepted
 gives_then : {A B : Type 0} (numbers : List ℕ) (next : A → Outcome B) (o : Outcome A) → Gives numbers o → ((a : A) → o ≡ accepted a → Gives numbers (next a)) →

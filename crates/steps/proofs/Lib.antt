@@ -1,4 +1,3 @@
 -- What the proofs of the functions use, and what callers cite.
-pub mod Following
 pub mod Accepted
 pub mod Laws

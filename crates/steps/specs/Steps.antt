@@ -1,8 +1,9 @@
 -- The steps in the desk program's order, from a file's content: each after the refusals of those before it. Definitions: nothing is assumed.
-use Rattle.std.specs.Prelude.{ℕ, ◌+◌, ◌≤◌, ◌<◌, ◌≡◌, List, ℤ, length, get_or}
+use Rattle.std.specs.Prelude.{ℕ, ◌+◌, ◌≤◌, ◌<◌, ◌≡◌, List, ℤ, length, get_or, Result}
+use Rattle.terms.specs.declared.Refusal.{Refusal}
 use Rattle.terms.specs.Limits.{most_lines, most_total, most_interval}
 use Rattle.terms.specs.Numbers.{sum}
-use Rattle.terms.specs.Outcome.{Outcome, accepted, refused_by, after}
+use Rattle.terms.specs.Outcome.{Outcome, accepted, after, says}
 use Rattle.signed.specs.declared.Part.TheVariants.{Size}
 use Rattle.signed.specs.Parts.{parts}
 use Rattle.factors.specs.Levels.{level_of}
@@ -15,12 +16,7 @@ use Rattle.start.specs.Start.{start_of}
 use Rattle.judge.specs.declared.Judgement.{Judgement}
 use Rattle.judge.specs.Judge.{judge_of}
 use Rattle.workfile.specs.declared.Plan.{Plan}
-use Rattle.steps.specs.declared.{Planned.Planned, Answers.Answers, StepsAnswer.StepsAnswer}
-
--- what the steps' answer says: every figure of the sheet, or a refusal's number and place
-abbrev pub steps_says : StepsAnswer → Outcome Answers
-steps_says (StepsAnswer.Answered answers) = accepted answers
-steps_says (StepsAnswer.Refused why) = refused_by why
+use Rattle.steps.specs.declared.{Planned.Planned, Answers.Answers}
 
 -- the plan with the ledger's total and the number of draws
 abbrev pub planned_with : Plan → ℕ → ℕ → Planned
@@ -57,9 +53,9 @@ unfoldable pub steps_of : Plan → List ℕ → List ℕ → List ℤ → Outcom
 steps_of plan words ledger errors = after (λ level. totalled_from plan words ledger errors) (level_of plan.level)
 
 -- what `steps` promises: the answer, and that its split has kept a draw
-pub record StepsPromise (plan : Plan) (words ledger : List ℕ) (errors : List ℤ) (r : StepsAnswer) : Type 0 where
-  pub answer : steps_says r ≡ steps_of plan words ledger errors
-  pub draw_kept : (answers : Answers) → steps_says r ≡ accepted answers → 1 ≤ answers.figures.draws_left
+pub record StepsPromise (plan : Plan) (words ledger : List ℕ) (errors : List ℤ) (r : Result Answers Refusal) : Type 0 where
+  pub answer : says r ≡ steps_of plan words ledger errors
+  pub draw_kept : (answers : Answers) → says r ≡ accepted answers → 1 ≤ answers.figures.draws_left
 
 -- what steps that accept have shown of the interval and the lines, the first of which has a number
 pub record Shown (first J : ℕ) (ledger : List ℕ) (errors : List ℤ) : Type 0 where

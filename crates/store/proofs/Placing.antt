@@ -1,13 +1,12 @@
--- Zeros between errors, and one record put in its place, by its kind. Assumes nothing.
-use Prim.Native.Nat.{ℕ, suc, ◌+◌, ◌-◌, ◌^◌, ◌<◌, ◌≤◌}
+-- An error after zeros, and one record put in its place, by its kind. Assumes nothing.
+use Prim.Native.Nat.{ℕ, ◌+◌, ◌-◌, ◌^◌, ◌<◌, ◌≤◌}
 use mathlib.Core.Path.{◌≡◌, refl, ap, ap₂, sym, ◌∙◌}
 use mathlib.Core.Bool.{Bool}
 use mathlib.Core.List.{List, ◌++◌}
 use native.Mathlib.Omega.{arith}
-use native.Mathlib.Numerals.{add-one}
-use lib.ListN.{length, get_or, take, drop, set, length-set, take-append-drop}
-use lib.Seq.{length-take-le, drop-cons, set_at, take-append_seam, drop-append-add, drop-drop}
-use lib.IntN.{ℤ, pos}
+use lib.ListN.{length, drop, set}
+use lib.Seq.{take-append_seam, drop-append-add, drop-drop}
+use lib.IntN.{ℤ}
 use lib.Signed.{mag}
 use Rattle.signed.specs.Errors.{signed_of, most_size}
 use Rattle.signed.proofs.Signs.{held, kept}
@@ -16,43 +15,8 @@ use Rattle.workfile.specs.Promises.{over}
 use Rattle.workfile.specs.declared.Tally.{Tally}
 use Rattle.workfile.specs.declared.FileRecord.{FileRecord}
 use Rattle.workfile.specs.declared.FileRecord.TheVariants.{Word, Value, ErrorOf, End, Nothing}
-use Rattle.workfile.proofs.Lists.{length_pad, pad_full, pad_skip}
+use Rattle.workfile.proofs.Lists.{length_pad}
 use Rattle.store.specs.Storing.{zeroed, Put, HasPlace}
-
-zeroed_none : (l : List ℤ) (a : ℕ) → a ≤ length l → zeroed l a a ≡ l
-unfolding zeroed
-zeroed_none l a h = ap (λ (x : List ℤ). x ++ drop a l) (pad_full a (take a l) (length-take-le a l h)) ∙ take-append-drop a l
-
-zeroed_more : (l : List ℤ) (a i : ℕ) → a ≤ i → i < length l → set (zeroed l a i) i (pos 0) ≡ zeroed l a (suc i)
-unfolding zeroed
-zeroed_more l a i h k =
-    let n : length (take a l) ≤ i = omega (arith, length-take-le a l (omega arith)) in
-    ap (λ (x : List ℤ). set (pad_to i (take a l) ++ x) i (pos 0)) (drop-cons l i (pos 0) k)
-    ∙ set_at (pad_to i (take a l)) (get_or l i (pos 0)) (drop (suc i) l) (pos 0) i (length_pad i (take a l) n)
-    ∙ sym (pad_skip i (take a l) (drop (suc i) l) n)
-
--- there are zeros from a place up to i
-pub record Cleared (old : List ℤ) (from to : ℕ) (buffer : List ℤ) (i : ℕ) : Type 0 where
-  pub begun : from ≤ i
-  pub within : i ≤ to
-  pub long : length buffer ≡ length old
-  pub same : buffer ≡ zeroed old from i
-
-pub clear_none : (old : List ℤ) (from to : ℕ) → from ≤ to → to ≤ length old → Cleared old from to old from
-clear_none old from to h k = record { begun = omega arith; within = h; long = refl; same = sym (zeroed_none old from (omega arith)) }
-
-module _ {old : List ℤ} {from to : ℕ} {buffer : List ℤ} {i : ℕ} (c : Cleared old from to buffer i) where
-  pub clear_more : i < to → to ≤ length old → Cleared old from to (set buffer i (pos 0)) (i + 1)
-  clear_more h k =
-      record {
-        begun = omega (arith, c.begun);
-        within = omega arith;
-        long = length-set buffer i (pos 0) ∙ c.long;
-        same = ap (λ (l : List ℤ). set l i (pos 0)) c.same ∙ zeroed_more old from i c.begun (omega arith) ∙ ap (zeroed old from) (sym (add-one i));
-      }
-
-  pub clear_done : to ≤ i → buffer ≡ zeroed old from to
-  clear_done h = let z : i ≡ to = omega (arith, c.within) in c.same ∙ ap (zeroed old from) z
 
 -- an error after zeros
 pub error_set : (old : List ℤ) {buffer : List ℤ} (from line : ℕ) {z e : ℤ} → buffer ≡ zeroed old from line → mag z < 2 ^ 63 → z ≡ e

@@ -1,5 +1,6 @@
 -- What the loops over the strata meet, and the laws of the plan.
 pub mod Pieces
+pub mod Cuts
 pub mod Counting
 pub mod Booking
 pub mod Padded

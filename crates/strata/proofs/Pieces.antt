@@ -1,7 +1,7 @@
 -- The strata of a ledger, as a loop over the line counts meets them. Assumes nothing.
 use mathlib.Core.Path.{◌≡◌, refl, sym, ap, ◌∙◌}
 use mathlib.Core.List.{List, [], ◌∷◌}
-use Prim.Native.Nat.{ℕ, ◌+◌, ◌-◌, ◌^◌, ◌≤◌, ◌<◌}
+use Prim.Native.Nat.{ℕ, ◌+◌, ◌-◌, ◌≤◌, ◌<◌}
 use native.Mathlib.Numerals.{add-one}
 use native.Mathlib.Omega.{arith}
 use lib.ListN.{length, get_or, take, drop, length-drop, drop_of_length-le, take-append-drop}
@@ -36,9 +36,6 @@ place_none e = record { within = omega arith; rest = omega arith }
 module _ {ledger counts : List ℕ} {at h : ℕ} (place : Place ledger counts at h) (inside : h < length counts) where
   pub reach : at + get_or counts h 0 ≤ length ledger
   reach = let r = place.rest in omega (arith, sum_on counts h inside)
-
-  pub to_fits : length ledger < 2 ^ 64 → at + get_or counts h 0 < 2 ^ 64
-  to_fits small = omega (arith, reach)
 
   pub place_next : Place ledger counts (at + get_or counts h 0) (h + 1)
   place_next = let r = place.rest in record { within = omega arith; rest = omega (arith, sum_on counts h inside) }

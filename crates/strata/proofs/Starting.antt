@@ -1,17 +1,18 @@
 -- The starts of the strata, as the code meets them, and what is known where they are accepted. Assumes nothing.
 use mathlib.Core.Path.{◌≡◌, refl, sym, ap, subst, ◌∙◌}
+use Rattle.std.specs.Prelude.{Ok, Err}
 use mathlib.Core.Bool.{Bool, true, false, not}
 use mathlib.Core.List.{List, [], ◌∷◌}
 use mathlib.Core.Logic.{⊎_elim}
 use Prim.Native.Nat.{ℕ, zero, suc, ◌+◌, ◌≤◌, ◌<◌}
 use native.Mathlib.Numerals.{add-one}
 use native.Mathlib.Omega.{arith}
-use borrow.Author.Tests.{eq-eqb, ne_eqb, eqb-true, not-true, not-false}
+use borrow.Author.Tests.{eqb-true, not-true, not-false}
 use lib.Dec.{T, eqb}
 use lib.ListN.{length, get_or, drop, drop_of_length-le, get_or-eq_default}
 use lib.Seq.{drop-cons, drop-drop}
 use Rattle.terms.specs.declared.Refusal.{Refusal}
-use Rattle.terms.specs.Outcome.{accepted, refused, refused_by, after}
+use Rattle.terms.specs.Outcome.{Outcome, accepted, refused, refused_by, after}
 use Rattle.terms.specs.Limits.{most_strata}
 use Rattle.terms.specs.Numbers.{pick, pad_to}
 use Rattle.terms.proofs.Outcomes.{never, after_accepted}
@@ -20,23 +21,14 @@ use Rattle.split.specs.Start.{start_fits}
 use Rattle.split.proofs.Start.{fits_early}
 use Rattle.strata.specs.declared.Row.{Row}
 use Rattle.strata.specs.declared.Planned.{Planned}
-use Rattle.strata.specs.declared.StrataAnswer.{StrataAnswer}
-use Rattle.strata.specs.declared.StrataAnswer.TheVariants.{Strata, Refused}
-use Rattle.strata.specs.Strata.{no_row, plan_of, strata_says, PlanPromise}
+use Rattle.strata.specs.Strata.{no_row, plan_of, plan_with, PlanPromise}
 use Rattle.strata.specs.Starts.{agree, starts_from, rows_started, started_of}
 use Rattle.strata.proofs.Pieces.{here_at}
 use Rattle.strata.proofs.Padded.{padded_at, later_at, Alike, alike_later}
-use Rattle.strata.proofs.Planning.{moved, promised_rows, promised_refusal, PlanFacts, plan_facts}
+use Rattle.strata.proofs.Planning.{promised_rows, PlanFacts, plan_facts}
 
 no_true : ◌≡◌ {A = Bool} false true → ⊥
 no_true e = subst T (sym e) tt
-
--- `lengths_agree`
-pub agree_lines : {beside lines : ℕ} (starts strata : ℕ) → beside ≡ lines → eqb starts strata ≡ agree beside lines starts strata
-agree_lines starts strata e = sym (simp (eq-eqb _ _ e))
-
-pub agree_not : {beside lines : ℕ} (starts strata : ℕ) → (beside ≡ lines → ⊥) → false ≡ agree beside lines starts strata
-agree_not starts strata e = sym (simp (ne_eqb _ _ e))
 
 pub agree_facts : (beside lines starts strata : ℕ) → agree beside lines starts strata ≡ true → (beside ≡ lines) × (starts ≡ strata)
 agree_facts beside lines starts strata =
@@ -47,9 +39,6 @@ pub record Fitting (rows : List Row) (starts : List ℕ) (h : ℕ) : Type 0 wher
   pub inside : h ≤ length starts
   pub few : length starts ≤ most_strata
   pub rest : starts_from h (drop h rows) (drop h starts) ≡ starts_from 0 rows starts
-
-pub fitting_none : {rows : List Row} {starts : List ℕ} → length starts ≤ most_strata → Fitting rows starts 0
-fitting_none few = record { inside = omega arith; few = few; rest = refl }
 
 -- the definition, as the loop meets it
 starts_on : (rows : List Row) (starts : List ℕ) (h : ℕ) → h < length starts →
@@ -73,9 +62,12 @@ module _ {rows : List Row} {starts : List ℕ} {h : ℕ} (at : Fitting rows star
           rest = sym (starts_on rows starts h inside ∙ ap (λ (b : Bool). pick b (starts_from (h + 1) (drop (h + 1) rows) (drop (h + 1) starts)) (refused 11 h)) (sym is ∙ not-false fits e)) ∙ at.rest;
         }
 
-  pub fitting_end : length starts ≤ h → accepted h ≡ starts_from 0 rows starts
+  pub fitting_end : length starts ≤ h → accepted (length starts) ≡ starts_from 0 rows starts
   unfolding starts_from
-  fitting_end end = sym (ap (starts_from h (drop h rows)) (drop_of_length-le starts end)) ∙ at.rest
+  fitting_end end =
+      let i = at.inside in
+      let all : length starts ≡ h = omega arith in
+      ap accepted all ∙ sym (ap (starts_from h (drop h rows)) (drop_of_length-le starts end)) ∙ at.rest
 
 -- the starts read the rows by their entries
 starts_alike : (h : ℕ) (rows others : List Row) (starts : List ℕ) → Alike no_row rows others → starts_from h rows starts ≡ starts_from h others starts
@@ -86,43 +78,34 @@ starts_alike h rows others (start ∷ later) same =
 
 -- from the plan to the plan for these starts, as `started` meets it
 module _ (ledger counts : List ℕ) (n : ℕ) (starts : List ℕ) (beside : ℕ) {same : Bool} (is : same ≡ agree beside (length ledger) (length starts) (length counts))
-    {p : Planned} (m : PlanPromise (plan_of ledger counts n same) p) where
-  from_plan : after (rows_started starts) (plan_of ledger counts n same) ≡ started_of ledger counts n starts beside
-  unfolding started_of
-  from_plan = ap (λ (b : Bool). after (rows_started starts) (plan_of ledger counts n b)) is
+    {p : Planned} (m : PlanPromise (plan_of ledger counts n same) (Ok p)) where
+  abbrev rows : List Row
+  rows = (promised_rows (plan_of ledger counts n same) m).0
 
-  pub plan_refused : {why : Refusal} → p.answer ≡ Refused why → PlanPromise (started_of ledger counts n starts beside) p
-  plan_refused r =
-      let o = promised_refusal (plan_of ledger counts n same) m r in
-      moved (sym (ap (after (rows_started starts)) o) ∙ from_plan) (moved o m)
+  known : plan_of ledger counts n same ≡ accepted rows
+  known = (promised_rows (plan_of ledger counts n same) m).1.0
 
-  module _ {strata : ℕ} (r : p.answer ≡ Strata strata) where
-    abbrev rows : List Row
-    rows = (promised_rows (plan_of ledger counts n same) m r).0
+  -- the starts are as many as the strata, so they are few
+  pub starts_few : length starts ≤ most_strata
+  starts_few =
+      let c = (plan_facts ledger counts n same rows known).checks in
+      omega (arith, c.few, (agree_facts beside (length ledger) (length starts) (length counts) (sym is ∙ c.lent)).1)
 
-    known : plan_of ledger counts n same ≡ accepted rows
-    known = (promised_rows (plan_of ledger counts n same) m r).1
+  module _ {o : Outcome ℕ} (e : o ≡ starts_from 0 p.rows starts) where
+    -- what the starts make of the rows, which stand in an array
+    from_starts : started_of ledger counts n starts beside ≡ after (λ strata. accepted rows) o
+    unfolding started_of
+    from_starts =
+        let array : p.rows ≡ pad_to most_strata no_row rows = ap (λ (q : Planned). q.rows) (promised_rows (plan_of ledger counts n same) m).1.1 in
+        let own : starts_from 0 p.rows starts ≡ starts_from 0 rows starts =
+        ap (λ (l : List Row). starts_from 0 l starts) array ∙ starts_alike 0 (pad_to most_strata no_row rows) rows starts (padded_at no_row most_strata rows) in
+        ap (λ (b : Bool). after (rows_started starts) (plan_of ledger counts n b)) (sym is) ∙ ap (after (rows_started starts)) known ∙ ap (after (λ strata. accepted rows)) (sym (e ∙ own))
 
-    -- the starts are as many as the strata, so they are few
-    pub starts_few : length starts ≤ most_strata
-    starts_few =
-        let c = (plan_facts ledger counts n same rows known).checks in
-        omega (arith, c.few, (agree_facts beside (length ledger) (length starts) (length counts) (sym is ∙ c.lent)).1)
+  pub start_refused : (why : Refusal) → refused_by why ≡ starts_from 0 p.rows starts → PlanPromise (started_of ledger counts n starts beside) (Err why)
+  start_refused why e = sym (ap (after (λ rows. accepted (plan_with rows))) (from_starts e))
 
-    module _ (s : StrataAnswer) (e : strata_says s ≡ starts_from 0 p.rows starts) where
-      -- what the starts make of the rows, which stand in an array
-      from_starts : after (λ strata. accepted rows) (strata_says s) ≡ started_of ledger counts n starts beside
-      from_starts =
-          let array : p.rows ≡ pad_to most_strata no_row rows = (moved known m).rows in
-          let own : starts_from 0 p.rows starts ≡ starts_from 0 rows starts =
-          ap (λ (l : List Row). starts_from 0 l starts) array ∙ starts_alike 0 (pad_to most_strata no_row rows) rows starts (padded_at no_row most_strata rows) in
-          ap (after (λ strata. accepted rows)) (e ∙ own) ∙ sym (ap (after (rows_started starts)) known) ∙ from_plan
-
-      pub start_refused : {why : Refusal} {q : Planned} → s ≡ Refused why → PlanPromise (refused_by why) q → PlanPromise (started_of ledger counts n starts beside) q
-      start_refused t f = moved (sym (ap (λ (a : StrataAnswer). after (λ strata. accepted rows) (strata_says a)) t) ∙ from_starts) f
-
-      pub starts_good : {all : ℕ} → s ≡ Strata all → PlanPromise (started_of ledger counts n starts beside) p
-      starts_good t = moved (sym (ap (λ (a : StrataAnswer). after (λ strata. accepted rows) (strata_says a)) t) ∙ from_starts) (moved known m)
+  pub starts_good : {all : ℕ} → accepted all ≡ starts_from 0 p.rows starts → PlanPromise (started_of ledger counts n starts beside) (Ok p)
+  starts_good e = ap accepted (promised_rows (plan_of ledger counts n same) m).1.1 ∙ sym (ap (after (λ rows. accepted (plan_with rows))) (from_starts e))
 
 -- each start fits its stratum's interval
 starts_fit : (h : ℕ) (rows : List Row) (starts : List ℕ) (strata : ℕ) → starts_from h rows starts ≡ accepted strata → (i : ℕ) → i < length starts → start_fits (get_or starts i 0) (get_or rows i no_row).figures.interval ≡ true

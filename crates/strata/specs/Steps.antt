@@ -2,7 +2,6 @@
 use Rattle.std.specs.Prelude.{◌≡◌, List, ℕ, ◌≤◌, ◌<◌, length, get_or}
 use Rattle.terms.specs.Limits.{most_total, most_strata}
 use Rattle.terms.specs.Numbers.{sum, pad_to}
-use Rattle.split.specs.Split.{Totalled}
 use Rattle.strata.specs.Strata.{parts_of, books_of}
 
 -- line counts, not too many, that add to the lines of a ledger whose total is within its limit
@@ -16,11 +15,6 @@ pub record Judged (ledger counts : List ℕ) (total : ℕ) : Type 0 where
   pub parted : Parted ledger counts
   pub added : total ≡ sum ledger
   pub some : 0 < total
-
--- a stratum's lines with their book value, and a draw where they have value
-pub record Drawable (part : List ℕ) (book draws : ℕ) : Type 0 where
-  pub total : Totalled part book
-  pub some : 0 < book → 0 < draws
 
 -- the strata's book values and their shares: one at least for a stratum with value
 pub record Sharing (ledger counts books draws : List ℕ) : Type 0 where

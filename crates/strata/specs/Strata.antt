@@ -1,13 +1,14 @@
 -- The plan of a ledger in strata, as document 02, K6, has it. A list holds the strata's line counts, in ledger order. Definitions: nothing is assumed.
-use Rattle.std.specs.Prelude.{ℕ, ◌≡◌, Bool, List, [], ◌∷◌, map, ltb, eqb, length, get_or, take, drop}
-use Rattle.terms.specs.Outcome.{Outcome, accepted, refused, refused_by, after, left}
+use Rattle.std.specs.Prelude.{ℕ, ◌≡◌, Result, Bool, List, [], ◌∷◌, map, ltb, eqb, length, get_or, take, drop}
+use Rattle.terms.specs.Outcome.{Outcome, accepted, refused, after, says}
+use Rattle.terms.specs.declared.Refusal.{Refusal}
 use Rattle.terms.specs.Numbers.{pick, sum, pad_to}
 use Rattle.terms.specs.Limits.{most_strata}
 use Rattle.ledger.specs.Ledger.{ledger_with}
 use Rattle.split.specs.Rounds.{rounds, split_lines}
 use Rattle.split.specs.Split.{figures_of}
 use Rattle.shares.specs.Shares.{with_value, shares_of}
-use Rattle.strata.specs.declared.{Row.Row, StrataAnswer.StrataAnswer, Planned.Planned}
+use Rattle.strata.specs.declared.{Row.Row, Planned.Planned}
 
 -- the strata of a list that stands beside the ledger, or of the ledger itself: each takes as many lines as it counts
 unfoldable pub parts_of : {A : Type 0} → List ℕ → List A → List (List A)
@@ -50,12 +51,10 @@ unfoldable pub plan_of : List ℕ → List ℕ → ℕ → Bool → Outcome (Lis
 unfolding parts_of plan_from checked_of
 plan_of ledger counts n same = after (λ total. plan_from (parts_of counts ledger) n) (checked_of ledger counts same)
 
--- what an answer says: how many strata there are, or a refusal's number and place
-abbrev pub strata_says : StrataAnswer → Outcome ℕ
-strata_says (StrataAnswer.Strata strata) = accepted strata
-strata_says (StrataAnswer.Refused why) = refused_by why
+-- how many they are, and the rows themselves; past the last there is none
+abbrev pub plan_with : List Row → Planned
+plan_with rows = record { strata = length rows; rows = pad_to most_strata no_row rows }
 
--- what is promised of an outcome's rows: how many they are, and the rows themselves; past the last, and where the call is refused, there is none
-pub record PlanPromise (o : Outcome (List Row)) (r : Planned) : Type 0 where
-  pub answer : strata_says r.answer ≡ after (λ rows. accepted (length rows)) o
-  pub rows : r.rows ≡ pad_to most_strata no_row (left (λ rows. rows) [] o)
+-- what is promised of an outcome's rows; where the call is refused, there is none
+abbrev pub PlanPromise : Outcome (List Row) → Result Planned Refusal → Type 0
+PlanPromise o r = says r ≡ after (λ rows. accepted (plan_with rows)) o

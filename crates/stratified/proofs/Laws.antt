@@ -118,7 +118,7 @@ others_unseen {row = row} p q =
     p.is ∙ ap (projection_row row) same ∙ sym q.is
 
 -- as many rows as strata
-rows_long : (at : ℕ) (parts : List (List ℕ)) (rows : List Row) (starts : List ℕ) (errors : List (List ℤ)) (projected : List ProjectionRow) →
+pub rows_long : (at : ℕ) (parts : List (List ℕ)) (rows : List Row) (starts : List ℕ) (errors : List (List ℤ)) (projected : List ProjectionRow) →
     projected_from at parts rows starts errors ≡ accepted projected → length projected ≡ length parts
 unfolding projected_from
 rows_long at [] rows starts errors projected e = let none : [] ≡ projected = cc in ap length (sym none)

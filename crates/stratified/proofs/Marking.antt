@@ -1,5 +1,6 @@
 -- The draw by strata, as the loop that marks stratum by stratum meets it, and the answer. Assumes nothing.
 use mathlib.Core.Path.{◌≡◌, refl, sym, ap, subst, ◌∙◌}
+use Rattle.std.specs.Prelude.{Ok, Err}
 use mathlib.Core.List.{List, [], ◌∷◌, ◌++◌, append_assoc, append-nil}
 use Prim.Native.Nat.{ℕ, ◌+◌, ◌-◌, ◌^◌, ◌≤◌, ◌<◌}
 use native.Mathlib.Omega.{arith}
@@ -9,18 +10,16 @@ use Rattle.terms.specs.declared.Refusal.{Refusal}
 use Rattle.terms.specs.Outcome.{Outcome, accepted, after, left}
 use Rattle.terms.specs.Limits.{most_strata}
 use Rattle.terms.specs.Numbers.{pad_to}
-use Rattle.draw.specs.declared.DrawAnswer.TheVariants.{Drawn, Refused}
 use Rattle.draw.specs.Row.{draw_marks, ones}
 use Rattle.draw.specs.Draw.{Markable, Marked}
 use Rattle.draw.proofs.Laws.{draw_marks_lem, marks_length, ones_append, ones_most}
 use Rattle.strata.specs.declared.Row.{Row}
 use Rattle.strata.specs.declared.Planned.{Planned}
-use Rattle.strata.specs.declared.StrataAnswer.TheVariants as planned
 use Rattle.strata.specs.Strata.{parts_of, no_row, PlanPromise}
 use Rattle.strata.specs.Starts.{started_of}
-use Rattle.strata.proofs.Pieces.{sum_past, part_sum, here_at, Place, place_none, reach, place_next, parts_past, part_at, to_come, later_on, come_on, part_long}
+use Rattle.strata.proofs.Pieces.{sum_past, part_sum, here_at, Place, reach, place_next, parts_past, part_at, to_come, later_on, come_on, part_long}
 use Rattle.strata.proofs.Padded.{padded_at, Alike, alike_later}
-use Rattle.strata.proofs.Planning.{moved, promised_rows, promised_refusal}
+use Rattle.strata.proofs.Planning.{promised_rows, promised_refusal}
 use Rattle.stratified.specs.Marks.{strata_marks, draw_strata_of, DrawStrataPromise, Underway, MarkedStrata}
 
 draw_length : (J start : ℕ) (part : List ℕ) → length (draw_marks J start part) ≡ length part
@@ -53,9 +52,6 @@ pub record Marking (ledger counts : List ℕ) (rows : List Row) (starts marks : 
   pub written : take at marks ++ marks_to_come ledger counts rows starts at h ≡ strata_marks (parts_of counts ledger) rows starts
   pub counted : drawn + ones (marks_to_come ledger counts rows starts at h) ≡ ones (strata_marks (parts_of counts ledger) rows starts)
 
-pub marking_none : {ledger counts : List ℕ} {rows : List Row} {starts marks : List ℕ} → Underway ledger counts rows starts (length marks) → Marking ledger counts rows starts marks 0 0 0
-marking_none given = record { given = given; place = place_none given.parted.add; few = omega arith; written = refl; counted = omega arith }
-
 module _ {ledger counts : List ℕ} {rows : List Row} {starts marks : List ℕ} {drawn at h : ℕ} (so_far : Marking ledger counts rows starts marks drawn at h) where
   module _ (inside : h < length counts) where
     far : at + get_or counts h 0 ≤ length ledger
@@ -63,9 +59,6 @@ module _ {ledger counts : List ℕ} {rows : List Row} {starts marks : List ℕ} 
 
     pub marks_far : at + get_or counts h 0 ≤ length marks
     marks_far = omega (arith, far, so_far.given.same)
-
-    pub start_inside : h < length starts
-    start_inside = omega (arith, so_far.given.as_many)
 
     pub marking_markable : Markable (interval_at rows h) (part_at ledger counts at h)
     marking_markable =
@@ -130,9 +123,6 @@ module _ {ledger counts : List ℕ} {rows : List Row} {starts marks : List ℕ} 
           count = omega (arith, so_far.counted, ap ones none_come, ones_most []);
         }
 
-  pub marking_kept : (marks₀ : List ℕ) → Underway ledger counts rows starts (length marks₀) → length marks ≡ length marks₀
-  marking_kept marks₀ first = so_far.given.same ∙ sym first.same
-
 -- the marks read the rows by their entries
 marks_alike : (parts : List (List ℕ)) (rows others : List Row) (starts : List ℕ) → Alike no_row rows others → strata_marks parts rows starts ≡ strata_marks parts others starts
 unfolding strata_marks
@@ -152,20 +142,19 @@ module _ (ledger counts : List ℕ) (n : ℕ) (starts marks : List ℕ) where
   unfolding draw_strata_of
   from_started = refl
 
-  module _ {p : Planned} (m : PlanPromise (started_of ledger counts n starts (length marks)) p) where
-    pub strata_refused : {why : Refusal} → p.answer ≡ planned.Refused why → DrawStrataPromise ledger counts n starts marks (Refused why) marks
-    strata_refused is =
-        let e = promised_refusal started m is in
-        record { answer = sym (ap (after (λ rows. accepted (ones (marks_in rows)))) e) ∙ from_started; marks_left = sym (ap (left marks_in marks) e) }
+  pub strata_refused : (why : Refusal) → PlanPromise (started_of ledger counts n starts (length marks)) (Err why) → DrawStrataPromise ledger counts n starts marks (Err why) marks
+  strata_refused why m =
+      let e = promised_refusal started why m in
+      record { answer = sym (ap (after (λ rows. accepted (ones (marks_in rows)))) e) ∙ from_started; marks_left = sym (ap (left marks_in marks) e) }
 
-    pub strata_drawn : {strata drawn : ℕ} {marks' : List ℕ} → p.answer ≡ planned.Strata strata → MarkedStrata (parts_of counts ledger) p.rows starts drawn marks' →
-        DrawStrataPromise ledger counts n starts marks (Drawn drawn) marks'
-    strata_drawn is by =
-        let o = promised_rows started m is in
-        let rows : List Row = o.0 in
-        let own : marks_in p.rows ≡ marks_in rows =
-        ap marks_in (moved o.1 m).rows ∙ marks_alike (parts_of counts ledger) (pad_to most_strata no_row rows) rows starts (padded_at no_row most_strata rows) in
-        record {
-          answer = ap accepted (by.count ∙ ap ones own) ∙ sym (ap (after (λ rows. accepted (ones (marks_in rows)))) o.1) ∙ from_started;
-          marks_left = by.marks ∙ own ∙ sym (ap (left marks_in marks) o.1);
-        }
+  pub strata_drawn : {p : Planned} {drawn : ℕ} {marks' : List ℕ} → PlanPromise (started_of ledger counts n starts (length marks)) (Ok p) → MarkedStrata (parts_of counts ledger) p.rows starts drawn marks' →
+      DrawStrataPromise ledger counts n starts marks (Ok drawn) marks'
+  strata_drawn {p} m by =
+      let o = promised_rows started m in
+      let rows : List Row = o.0 in
+      let own : marks_in p.rows ≡ marks_in rows =
+      ap (λ (q : Planned). marks_in q.rows) o.1.1 ∙ marks_alike (parts_of counts ledger) (pad_to most_strata no_row rows) rows starts (padded_at no_row most_strata rows) in
+      record {
+        answer = ap accepted (by.count ∙ ap ones own) ∙ sym (ap (after (λ rows. accepted (ones (marks_in rows)))) o.1.0) ∙ from_started;
+        marks_left = by.marks ∙ own ∙ sym (ap (left marks_in marks) o.1.0);
+      }

@@ -1,35 +1,35 @@
 -- What the strata's rows add to, and the answer of the projection by strata. Assumes nothing.
-use mathlib.Core.Path.{◌≡◌, refl, sym, ap, subst, ◌∙◌}
+use mathlib.Core.Path.{◌≡◌, refl, sym, ap, ◌∙◌}
+use Rattle.std.specs.Prelude.{Result, Ok, Err}
+use Rattle.std.specs.Result.{result_unwrap_or}
 use mathlib.Core.Bool.{false}
 use mathlib.Core.List.{List, [], ◌∷◌, ◌++◌, map}
-use Prim.Native.Nat.{ℕ, zero, suc, ◌+◌, ◌-◌, ◌*◌, ◌^◌, ◌≤◌, ◌<◌}
+use Prim.Native.Nat.{ℕ, zero, suc, ◌+◌, ◌-◌, ◌*◌, ◌≤◌, ◌<◌}
 use native.Mathlib.Nat.{zero-add}
 use native.Mathlib.Numerals.{add-one}
 use native.Mathlib.Omega.{arith}
 use lib.IntN.{ℤ, pos, ◌-ℤ◌}
-use lib.Signed.{mag}
 use lib.ListN.{length, get_or, drop, replicate, drop_of_length-le}
 use lib.Seq.{drop-cons}
 use Rattle.terms.specs.declared.Refusal.{Refusal}
-use Rattle.terms.specs.Outcome.{Outcome, accepted, refused_by, after}
+use Rattle.terms.specs.Outcome.{Outcome, accepted, refused, refused_by, after, left, says}
 use Rattle.terms.specs.Limits.{most_strata}
 use Rattle.terms.specs.Numbers.{sum, pad_to}
+use Rattle.terms.proofs.Outcomes.{never, after_accepted}
 use Rattle.signed.specs.Errors.{most_size}
 use Rattle.signed.proofs.Laws.{least_most}
-use Rattle.signed.proofs.Signs.{held, kept}
 use Rattle.strata.specs.declared.Row.{Row}
 use Rattle.strata.specs.declared.Planned.{Planned}
-use Rattle.strata.specs.declared.StrataAnswer.TheVariants.{Strata, Refused}
 use Rattle.strata.specs.Strata.{parts_of, no_row, PlanPromise}
 use Rattle.strata.specs.Starts.{started_of}
 use Rattle.strata.proofs.Padded.{padded_at, Alike, alike_later}
-use Rattle.strata.proofs.Planning.{moved, promised_rows, promised_refusal}
+use Rattle.strata.proofs.Planning.{promised_rows, promised_refusal, parts_many}
 use Rattle.project.specs.Project.{projection_at}
 use Rattle.stratified.specs.declared.projection.ProjectionRow.{ProjectionRow}
-use Rattle.stratified.specs.declared.projection.Projections.{Projections}
 use Rattle.stratified.specs.declared.projection.ProjectedStrata.{ProjectedStrata}
 use Rattle.stratified.specs.declared.totals.Totals.{Totals}
-use Rattle.stratified.specs.Projection.{projection_row, no_projection, projected_from, project_strata_of, over_of, under_of, over_all, under_all, rows_in, most_of, Smalls, TotalsOf, Walked, with_totals, ProjectStrataPromise}
+use Rattle.stratified.specs.Projection.{projection_row, no_projection, projected_from, project_strata_of, over_of, under_of, over_all, under_all, sums_with, most_of, Smalls, TotalsOf, Walked, with_totals, ProjectStrataPromise}
+use Rattle.stratified.proofs.Laws.{rows_long}
 
 -- of each kind: the rows from one on
 over_on : (rows : List ProjectionRow) (h : ℕ) → h < length rows → over_all (drop h rows) ≡ over_of (get_or rows h no_projection) + over_all (drop (h + 1) rows)
@@ -58,37 +58,21 @@ pub record Totalling (rows : List ProjectionRow) (over under h : ℕ) : Type 0 w
   pub over_most : over ≤ most_of * h
   pub under_most : under ≤ most_of * h
 
-pub totalling_none : {rows : List ProjectionRow} → Smalls rows → length rows ≡ 32 → Totalling rows 0 0 0
-totalling_none given strata =
-    record { given = given; strata = strata; inside = omega arith; overs = omega arith; unders = omega arith; over_most = omega arith; under_most = omega arith }
-
 module _ {rows : List ProjectionRow} {over under h : ℕ} (at : Totalling rows over under h) where
-  module _ (inside : h < 32) where
-    pub own_over_fits : (get_or rows h no_projection).full + (get_or rows h no_projection).sampled < 2 ^ 64
-    own_over_fits = omega (arith, at.given.over h)
-
-    pub own_under_fits : (get_or rows h no_projection).under_full + (get_or rows h no_projection).under_sampled < 2 ^ 64
-    own_under_fits = omega (arith, at.given.under h)
-
-    pub over_fits : over + ((get_or rows h no_projection).full + (get_or rows h no_projection).sampled) < 2 ^ 64
-    over_fits = omega (arith, at.given.over h, at.over_most)
-
-    pub under_fits : under + ((get_or rows h no_projection).under_full + (get_or rows h no_projection).under_sampled) < 2 ^ 64
-    under_fits = omega (arith, at.given.under h, at.under_most)
-
-    pub totalling_next : Totalling rows (over + ((get_or rows h no_projection).full + (get_or rows h no_projection).sampled))
-        (under + ((get_or rows h no_projection).under_full + (get_or rows h no_projection).under_sampled)) (h + 1)
-    totalling_next =
-        let s = at.strata in
-        record {
-          given = at.given;
-          strata = at.strata;
-          inside = omega arith;
-          overs = omega (arith, at.overs, over_on rows h (omega arith));
-          unders = omega (arith, at.unders, under_on rows h (omega arith));
-          over_most = omega (arith, at.given.over h, at.over_most);
-          under_most = omega (arith, at.given.under h, at.under_most);
-        }
+  pub totalling_next : h < 32 → Totalling rows (over + ((get_or rows h no_projection).full + (get_or rows h no_projection).sampled))
+      (under + ((get_or rows h no_projection).under_full + (get_or rows h no_projection).under_sampled)) (h + 1)
+  totalling_next room =
+      let s = at.strata in
+      let inside : h < length rows = omega arith in
+      record {
+        given = at.given;
+        strata = at.strata;
+        inside = omega arith;
+        overs = omega (arith, at.overs, over_on rows h inside);
+        unders = omega (arith, at.unders, under_on rows h inside);
+        over_most = omega (arith, at.given.over h, at.over_most);
+        under_most = omega (arith, at.given.under h, at.under_most);
+      }
 
   pub totalling_end : 32 ≤ h → TotalsOf rows (record { over = over; under = under })
   totalling_end end =
@@ -108,11 +92,6 @@ module _ {rows : List ProjectionRow} {t : Totals} (of : TotalsOf rows t) where
 
   pub under_signed : t.under ≤ most_size false
   under_signed = omega (arith, of.under_most, least_most false)
-
-pub totals_are : (walked : Projections) (t : Totals) (net : ℤ) → TotalsOf walked.rows t → mag net < 2 ^ 63 → net ≡ pos t.over -ℤ pos t.under →
-    ◌≡◌ {A = ProjectedStrata} (record { answer = walked.answer; over = t.over; under = t.under; net = held net; rows = walked.rows }) (with_totals walked)
-totals_are walked t net of fits is =
-    λ i. record { answer = walked.answer; over = of.over i; under = of.under i; net = (kept net fits ∙ is ∙ (λ j. pos (of.over j) -ℤ pos (of.under j))) i; rows = walked.rows }
 
 -- rows of 0 past the last add nothing
 over_more : (rows : List ProjectionRow) (k : ℕ) → over_all (rows ++ replicate k no_projection) ≡ over_all rows
@@ -135,11 +114,28 @@ pub under_padded : (m : ℕ) (rows : List ProjectionRow) → under_all (pad_to m
 unfolding pad_to
 under_padded m rows = under_more rows (m - length rows)
 
-totalled : {o : Outcome (List ProjectionRow)} {w : Projections} → Walked o w → ProjectStrataPromise o (with_totals w)
-totalled {o} {w} m =
-    let over : over_all w.rows ≡ over_all (rows_in o) = ap over_all m.rows ∙ over_padded most_strata (rows_in o) in
-    let under : under_all w.rows ≡ under_all (rows_in o) = ap under_all m.rows ∙ under_padded most_strata (rows_in o) in
-    record { answer = m.answer; over = over; under = under; net = λ i. pos (over i) -ℤ pos (under i); rows = m.rows }
+-- the rows in an array, with what they add to
+totalled : (strata : ℕ) (rows : List ProjectionRow) → strata ≡ length rows → with_totals strata (pad_to most_strata no_projection rows) ≡ sums_with rows
+totalled strata rows many =
+    λ i. record {
+      strata = many i;
+      over = over_padded most_strata rows i;
+      under = under_padded most_strata rows i;
+      net = pos (over_padded most_strata rows i) -ℤ pos (under_padded most_strata rows i);
+      rows = pad_to most_strata no_projection rows;
+    }
+
+-- a refusal is the same whatever follows
+refused_alike : {A B C : Type 0} (f : A → B) (g : A → C) (o : Outcome A) (why : Refusal) → refused_by why ≡ after (λ a. accepted (f a)) o → refused_by why ≡ after (λ a. accepted (g a)) o
+refused_alike f g (accepted a) why e = never e
+refused_alike f g (refused number place) why e = cc
+
+-- the projection, or none
+pub or_none : (r : Result ProjectedStrata Refusal) →
+    result_unwrap_or r (record { strata = 0; over = 0; under = 0; net = pos 0; rows = replicate 32 no_projection }) ≡ left (λ p. p) (sums_with []) (says r)
+unfolding pad_to over_all under_all
+or_none (Ok p) = refl
+or_none (Err why) = refl
 
 -- the walk reads the rows of the plan by their entries
 rows_alike : (at : ℕ) (parts : List (List ℕ)) (rows others : List Row) (starts : List ℕ) (errors : List (List ℤ)) → Alike no_row rows others →
@@ -163,22 +159,29 @@ module _ (ledger counts : List ℕ) (n : ℕ) (starts : List ℕ) (errors : List
   unfolding project_strata_of
   from_started = refl
 
-  -- any outcome that is the projection's
-  promised : {o : Outcome (List ProjectionRow)} {w : Projections} {r : ProjectedStrata} → o ≡ project_strata_of ledger counts n starts errors → Walked o w → r ≡ with_totals w →
-      ProjectStrataPromise (project_strata_of ledger counts n starts errors) r
-  promised {o} {w} {r} e m is =
-      subst (λ (s : ProjectedStrata). ProjectStrataPromise (project_strata_of ledger counts n starts errors) s) (sym is)
-      (totalled (subst (λ (p : Outcome (List ProjectionRow)). Walked p w) e m))
+  pub strata_refused : (why : Refusal) → PlanPromise (started_of ledger counts n starts (length errors)) (Err why) → ProjectStrataPromise (project_strata_of ledger counts n starts errors) (Err why)
+  strata_refused why m = ap (after (λ rows. accepted (sums_with rows))) (sym (ap (after walk_of) (promised_refusal started why m)) ∙ from_started)
 
-  module _ {p : Planned} (m : PlanPromise (started_of ledger counts n starts (length errors)) p) {w : Projections} {r : ProjectedStrata} (is : r ≡ with_totals w) where
-    pub strata_refused : {why : Refusal} → p.answer ≡ Refused why → Walked (refused_by why) w → ProjectStrataPromise (project_strata_of ledger counts n starts errors) r
-    strata_refused t walked = promised (sym (ap (after walk_of) (promised_refusal started m t)) ∙ from_started) walked is
-
-    pub strata_projected : {strata : ℕ} → p.answer ≡ Strata strata → Walked (projected_from 0 (parts_of counts ledger) p.rows starts (parts_of counts errors)) w →
-        ProjectStrataPromise (project_strata_of ledger counts n starts errors) r
-    strata_projected t walked =
-        let o = promised_rows started m t in
+  module _ {p : Planned} (m : PlanPromise (started_of ledger counts n starts (length errors)) (Ok p)) where
+    -- the walk over the plan's rows, which stand in an array
+    from_walk : walk_of p.rows ≡ project_strata_of ledger counts n starts errors
+    from_walk =
+        let o = promised_rows started m in
         let rows : List Row = o.0 in
-        let own : walk_of p.rows ≡ walk_of rows =
-        ap walk_of (moved o.1 m).rows ∙ rows_alike 0 (parts_of counts ledger) (pad_to most_strata no_row rows) rows starts (parts_of counts errors) (padded_at no_row most_strata rows) in
-        promised (own ∙ sym (ap (after walk_of) o.1) ∙ from_started) walked is
+        ap (λ (q : Planned). walk_of q.rows) o.1.1
+        ∙ rows_alike 0 (parts_of counts ledger) (pad_to most_strata no_row rows) rows starts (parts_of counts errors) (padded_at no_row most_strata rows)
+        ∙ sym (ap (after walk_of) o.1.0) ∙ from_started
+
+    pub walk_refused : (why : Refusal) → Walked (projected_from 0 (parts_of counts ledger) p.rows starts (parts_of counts errors)) (Err why) →
+        ProjectStrataPromise (project_strata_of ledger counts n starts errors) (Err why)
+    walk_refused why w = refused_alike (pad_to most_strata no_projection) sums_with (walk_of p.rows) why w.answer ∙ ap (after (λ rows. accepted (sums_with rows))) from_walk
+
+    pub strata_projected : {rows : List ProjectionRow} {r : ProjectedStrata} → Walked (projected_from 0 (parts_of counts ledger) p.rows starts (parts_of counts errors)) (Ok rows) →
+        r ≡ with_totals (length counts) rows → ProjectStrataPromise (project_strata_of ledger counts n starts errors) (Ok r)
+    strata_projected {rows} {r} w is =
+        let a = after_accepted (λ (l : List ProjectionRow). accepted (pad_to most_strata no_projection l)) (walk_of p.rows) rows (sym w.answer) in
+        let own : List ProjectionRow = a.0 in
+        let array : pad_to most_strata no_projection own ≡ rows = let f = a.2 in cc in
+        let many : length counts ≡ length own = sym (rows_long 0 (parts_of counts ledger) p.rows starts (parts_of counts errors) own a.1 ∙ parts_many counts ledger) in
+        ap accepted (is ∙ ap (with_totals (length counts)) (sym array) ∙ totalled (length counts) own many)
+        ∙ ap (after (λ rows. accepted (sums_with rows))) (sym a.1 ∙ from_walk)

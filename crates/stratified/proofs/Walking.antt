@@ -1,5 +1,6 @@
 -- The projection by strata, as the loop from stratum to stratum meets it. Assumes nothing.
 use mathlib.Core.Path.{◌≡◌, refl, sym, ap, subst, ◌∙◌}
+use Rattle.std.specs.Prelude.{Ok, Err}
 use mathlib.Core.Bool.{Bool, true, false}
 use mathlib.Core.List.{List, [], ◌∷◌, ◌++◌, append-nil}
 use Prim.Native.Nat.{ℕ, ◌+◌, ◌-◌, ◌≤◌, ◌<◌, zero-le}
@@ -8,7 +9,7 @@ use borrow.Author.Tests.{eqb-true, eqb-false}
 use lib.Dec.{eqb}
 use lib.IntN.{ℤ}
 use lib.ListN.{length, get_or, take, drop, set, replicate}
-use lib.Seq.{drop-drop, append_snoc, length-take-le, get_or-set_same, get_or-set_other}
+use lib.Seq.{drop-drop, append_snoc, get_or-set_same, get_or-set_other}
 use Rattle.terms.specs.declared.Refusal.{Refusal}
 use Rattle.terms.specs.Outcome.{Outcome, accepted, refused, refused_by, after}
 use Rattle.terms.specs.Limits.{most_strata}
@@ -17,17 +18,13 @@ use Rattle.terms.proofs.Filling.{Coming, coming_none, coming_next, coming_end}
 use Rattle.draw.proofs.Row.{row_sum}
 use Rattle.signed.specs.declared.Part.TheVariants.{Overstated, Understated}
 use Rattle.project.specs.declared.Projection.{Projection}
-use Rattle.project.specs.declared.ProjectAnswer.{ProjectAnswer}
-use Rattle.project.specs.declared.ProjectAnswer.TheVariants as part
-use Rattle.project.specs.Project.{project_says, projection_at, Ready}
+use Rattle.project.specs.Project.{projection_at, Ready}
 use Rattle.project.proofs.Laws.{projected_facts}
 use Rattle.strata.specs.declared.Row.{Row}
-use Rattle.strata.specs.declared.StrataAnswer.TheVariants.{Strata, Refused}
 use Rattle.strata.specs.Strata.{parts_of, no_row}
 use Rattle.strata.proofs.Pieces.{part_sum, here_at, Place, place_none, reach, place_next, parts_past, part_at, to_come, later_on, come_on, part_long}
 use Rattle.strata.proofs.Padded.{padded_at}
 use Rattle.stratified.specs.declared.projection.ProjectionRow.{ProjectionRow}
-use Rattle.stratified.specs.declared.projection.Projections.{Projections}
 use Rattle.stratified.specs.Marks.{Underway}
 use Rattle.stratified.specs.Projection.{projection_row, no_projection, projected_from, over_of, under_of, most_of, Smalls, Walked}
 use Rattle.stratified.proofs.Marking.{interval_at}
@@ -70,13 +67,6 @@ smalls_set f rows h row inside small each k = go (eqb k h) refl
         subst (λ (r : ProjectionRow). f r ≤ most_of) (sym (ap (λ (i : ℕ). get_or (set rows h row) i no_projection) (eqb-true k h e) ∙ get_or-set_same rows h row no_projection inside)) small
     go false e = subst (λ (r : ProjectionRow). f r ≤ most_of) (sym (get_or-set_other rows h k row no_projection (eqb-false k h e))) (each k)
 
--- every row of a refusal is 0
-pub none_walked : {why : Refusal} {none : ProjectionRow} → none ≡ no_projection → Walked (refused_by why) (record { answer = Refused why; rows = replicate 32 none })
-unfolding pad_to
-none_walked {why} e =
-    subst (λ (none : ProjectionRow). Walked (refused_by why) (record { answer = Refused why; rows = replicate 32 none })) (sym e)
-    (record { answer = refl; rows = refl; small = smalls_none })
-
 -- ---- the walk
 
 module _ {A : Type 0} where
@@ -118,11 +108,10 @@ pub record Walking (ledger counts : List ℕ) (plan : List Row) (starts : List �
   pub small : Smalls rows
   pub rest : after (λ others. accepted (take h rows ++ others)) (rows_to_come ledger counts plan starts errors at h) ≡ all_rows ledger counts plan starts errors
 
-pub walking_none : {ledger counts : List ℕ} {plan : List Row} {starts : List ℕ} {errors : List ℤ} {none : ProjectionRow} → Underway ledger counts plan starts (length errors) → none ≡ no_projection →
-    Walking ledger counts plan starts errors (replicate 32 none) 0 0
-walking_none {ledger} {counts} {plan} {starts} {errors} given e =
-    subst (λ (none : ProjectionRow). Walking ledger counts plan starts errors (replicate 32 none) 0 0) (sym e)
-    (record { given = given; place = place_none given.parted.add; filled = coming_none; small = smalls_none; rest = after_same (all_rows ledger counts plan starts errors) })
+pub walking_none : {ledger counts : List ℕ} {plan : List Row} {starts : List ℕ} {errors : List ℤ} → Underway ledger counts plan starts (length errors) →
+    Walking ledger counts plan starts errors (replicate 32 no_projection) 0 0
+walking_none {ledger} {counts} {plan} {starts} {errors} given =
+    record { given = given; place = place_none given.parted.add; filled = coming_none; small = smalls_none; rest = after_same (all_rows ledger counts plan starts errors) }
 
 module _ {ledger counts : List ℕ} {plan : List Row} {starts : List ℕ} {errors : List ℤ} {rows : List ProjectionRow} {at h : ℕ} (so_far : Walking ledger counts plan starts errors rows at h) where
   module _ (inside : h < length counts) where
@@ -131,9 +120,6 @@ module _ {ledger counts : List ℕ} {plan : List Row} {starts : List ℕ} {error
 
     pub errors_far : at + get_or counts h 0 ≤ length errors
     errors_far = omega (arith, far, so_far.given.same)
-
-    pub start_within : h < length starts
-    start_within = omega (arith, so_far.given.as_many)
 
     pub walking_asks : Ready at (interval_at plan h) (get_or starts h 0) (part_at ledger counts at h) (part_at errors counts at h)
     walking_asks =
@@ -161,18 +147,18 @@ module _ {ledger counts : List ℕ} {plan : List Row} {starts : List ℕ} {error
         ∙ ap (λ (k : ℕ). after (λ sums. after (λ more. accepted (projection_row (get_or plan h no_row) sums ∷ more))
         (projected_from (at + k) (later_on ledger counts at h) (drop (h + 1) plan) (drop (h + 1) starts) (later_on errors counts at h))) own) (part_long ledger counts at h far)
 
-    module _ (a : ProjectAnswer) (said : project_says a ≡ projection_at at (interval_at plan h) (get_or starts h 0) (part_at ledger counts at h) (part_at errors counts at h)) where
-      pub walking_refused : {why : Refusal} {r : Projections} → a ≡ part.Refused why → Walked (refused_by why) r → Walked (all_rows ledger counts plan starts errors) r
-      walking_refused {why} {r} is w =
-          let e : own ≡ refused_by why = sym said ∙ ap project_says is in
-          let whole : refused_by why ≡ all_rows ledger counts plan starts errors =
-          sym (ap (after (λ others. accepted (take h rows ++ others))) (come_rows ∙ ap (after (λ sums. after (λ more. accepted (projection_row (get_or plan h no_row) sums ∷ more)) later)) e)) ∙ so_far.rest in
-          subst (λ (o : Outcome (List ProjectionRow)). Walked o r) whole w
+    pub walking_refused : (why : Refusal) → refused_by why ≡ projection_at at (interval_at plan h) (get_or starts h 0) (part_at ledger counts at h) (part_at errors counts at h) →
+        Walked (all_rows ledger counts plan starts errors) (Err why)
+    walking_refused why e =
+        let whole : refused_by why ≡ all_rows ledger counts plan starts errors =
+        sym (ap (after (λ others. accepted (take h rows ++ others))) (come_rows ∙ ap (after (λ sums. after (λ more. accepted (projection_row (get_or plan h no_row) sums ∷ more)) later)) (sym e))) ∙ so_far.rest in
+        record { answer = ap (after (λ rows. accepted (pad_to most_strata no_projection rows))) whole; small = tt }
 
-      pub walking_next : {sums : Projection} {row : ProjectionRow} → a ≡ part.Projected sums → row ≡ projection_row (get_or plan h no_row) sums →
+    module _ {sums : Projection} (said : accepted sums ≡ projection_at at (interval_at plan h) (get_or starts h 0) (part_at ledger counts at h) (part_at errors counts at h)) where
+      pub walking_next : {row : ProjectionRow} → row ≡ projection_row (get_or plan h no_row) sums →
           Walking ledger counts plan starts errors (set rows h row) (at + get_or counts h 0) (h + 1)
-      walking_next {sums} {row} is made =
-          let e : own ≡ accepted sums = sym said ∙ ap project_says is in
+      walking_next {row} made =
+          let e : own ≡ accepted sums = sym said in
           let few = so_far.given.parted.few in
           let long = so_far.filled.long in
           let room : h < most_strata = omega arith in
@@ -198,7 +184,7 @@ module _ {ledger counts : List ℕ} {plan : List Row} {starts : List ℕ} {error
                 ∙ sym (ap (after (λ others. accepted (take h rows ++ others))) come) ∙ so_far.rest;
           }
 
-  pub walking_end : length counts ≤ h → Walked (all_rows ledger counts plan starts errors) (record { answer = Strata h; rows = rows })
+  pub walking_end : length counts ≤ h → Walked (all_rows ledger counts plan starts errors) (Ok rows)
   walking_end end =
       let few = so_far.given.parted.few in
       let within = so_far.place.within in
@@ -207,5 +193,4 @@ module _ {ledger counts : List ℕ} {plan : List Row} {starts : List ℕ} {error
       (λ i. projected_from at (parts_past ledger counts at h end i) (drop h plan) (drop h starts) (to_come errors counts at h)) ∙ projected_none at (drop h plan) (drop h starts) (to_come errors counts at h) in
       let whole : accepted (take h rows) ≡ all_rows ledger counts plan starts errors =
       ap accepted (sym (append-nil (take h rows))) ∙ sym (ap (after (λ others. accepted (take h rows ++ others))) none) ∙ so_far.rest in
-      subst (λ (o : Outcome (List ProjectionRow)). Walked o (record { answer = Strata h; rows = rows })) whole
-      (record { answer = ap accepted (sym (length-take-le h rows (omega arith))); rows = coming_end so_far.filled (omega arith) refl; small = so_far.small })
+      record { answer = ap accepted (coming_end so_far.filled (omega arith) refl) ∙ ap (after (λ rows. accepted (pad_to most_strata no_projection rows))) whole; small = so_far.small }

@@ -1,10 +1,9 @@
 -- The draw by strata, as document 02, K6, has it: each stratum is drawn by itself, with its own interval and start. Definitions: nothing is assumed.
-use Rattle.std.specs.Prelude.{ℕ, ◌≤◌, ◌≡◌, List, [], ◌∷◌, ◌++◌, length, get_or, drop}
-use Rattle.terms.specs.Outcome.{Outcome, accepted, after, left}
+use Rattle.std.specs.Prelude.{ℕ, ◌≤◌, ◌≡◌, List, [], ◌∷◌, ◌++◌, length, get_or, drop, Result}
+use Rattle.terms.specs.declared.Refusal.{Refusal}
+use Rattle.terms.specs.Outcome.{Outcome, accepted, after, left, says}
 use Rattle.terms.specs.Limits.{most_lines, most_total}
-use Rattle.draw.specs.declared.DrawAnswer.{DrawAnswer}
 use Rattle.draw.specs.Row.{draw_marks, ones}
-use Rattle.draw.specs.Draw.{draw_says}
 use Rattle.strata.specs.declared.Row.{Row}
 use Rattle.strata.specs.Strata.{parts_of, no_row}
 use Rattle.strata.specs.Starts.{started_of}
@@ -22,8 +21,8 @@ unfolding strata_marks parts_of started_of ones
 draw_strata_of ledger counts n starts beside = after (λ rows. accepted (ones (strata_marks (parts_of counts ledger) rows starts))) (started_of ledger counts n starts beside)
 
 -- what `draw_strata` promises: the answer, and the marks, which a refusal leaves
-pub record DrawStrataPromise (ledger counts : List ℕ) (n : ℕ) (starts marks : List ℕ) (r : DrawAnswer) (marks' : List ℕ) : Type 0 where
-  pub answer : draw_says r ≡ draw_strata_of ledger counts n starts (length marks)
+pub record DrawStrataPromise (ledger counts : List ℕ) (n : ℕ) (starts marks : List ℕ) (r : Result ℕ Refusal) (marks' : List ℕ) : Type 0 where
+  pub answer : says r ≡ draw_strata_of ledger counts n starts (length marks)
   pub marks_left : marks' ≡ left (λ rows. strata_marks (parts_of counts ledger) rows starts) marks (started_of ledger counts n starts (length marks))
 
 -- what both start from: line counts that fit the ledger and what is lent beside it, and a start within each stratum's interval

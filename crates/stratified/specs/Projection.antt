@@ -1,14 +1,15 @@
 -- The projection by strata, as document 02, K6, has it: each stratum by itself, and the sums over the strata. Definitions: nothing is assumed.
-use Rattle.std.specs.Prelude.{ℕ, ◌+◌, ◌*◌, ◌≤◌, ◌≡◌, List, [], ◌∷◌, map, ℤ, pos, ◌-ℤ◌, length, get_or, drop}
-use Rattle.terms.specs.Outcome.{Outcome, accepted, after, left}
+use Rattle.std.specs.Prelude.{ℕ, ◌+◌, ◌*◌, ◌≤◌, ◌≡◌, List, [], ◌∷◌, map, ℤ, pos, ◌-ℤ◌, length, get_or, drop, Result, IfOk}
+use Rattle.terms.specs.Outcome.{Outcome, accepted, after, says}
+use Rattle.terms.specs.declared.Refusal.{Refusal}
 use Rattle.terms.specs.Limits.{most_total, most_strata}
 use Rattle.terms.specs.Numbers.{sum, pad_to}
 use Rattle.project.specs.declared.Projection.{Projection}
 use Rattle.project.specs.Project.{projection_at}
 use Rattle.strata.specs.declared.Row.{Row}
-use Rattle.strata.specs.Strata.{parts_of, no_row, strata_says}
+use Rattle.strata.specs.Strata.{parts_of, no_row}
 use Rattle.strata.specs.Starts.{started_of}
-use Rattle.stratified.specs.declared.{projection.ProjectionRow.ProjectionRow, projection.Projections.Projections, projection.ProjectedStrata.ProjectedStrata, totals.Totals.Totals}
+use Rattle.stratified.specs.declared.{projection.ProjectionRow.ProjectionRow, projection.ProjectedStrata.ProjectedStrata, totals.Totals.Totals}
 
 -- a stratum's row: its draws, J, and both sums of each kind
 abbrev pub projection_row : Row → Projection → ProjectionRow
@@ -52,17 +53,20 @@ over_all rows = sum (map over_of rows)
 unfoldable pub under_all : List ProjectionRow → ℕ
 under_all rows = sum (map under_of rows)
 
--- the rows of an outcome; a refused call has none
-abbrev pub rows_in : Outcome (List ProjectionRow) → List ProjectionRow
-rows_in o = left (λ rows. rows) [] o
+-- how many rows there are, the projected error of each kind, the net, and the rows; past the last there is none
+abbrev pub sums_with : List ProjectionRow → ProjectedStrata
+sums_with rows =
+    record {
+      strata = length rows;
+      over = over_all rows;
+      under = under_all rows;
+      net = pos (over_all rows) -ℤ pos (under_all rows);
+      rows = pad_to most_strata no_projection rows;
+    }
 
--- what `project_strata` promises: the answer, the rows, the projected error of each kind and the net, all 0 where the call is refused
-pub record ProjectStrataPromise (o : Outcome (List ProjectionRow)) (r : ProjectedStrata) : Type 0 where
-  pub answer : strata_says r.answer ≡ after (λ rows. accepted (length rows)) o
-  pub over : r.over ≡ over_all (rows_in o)
-  pub under : r.under ≡ under_all (rows_in o)
-  pub net : r.net ≡ pos (over_all (rows_in o)) -ℤ pos (under_all (rows_in o))
-  pub rows : r.rows ≡ pad_to most_strata no_projection (rows_in o)
+-- what `project_strata` promises; where the call is refused, there is none
+abbrev pub ProjectStrataPromise : Outcome (List ProjectionRow) → Result ProjectedStrata Refusal → Type 0
+ProjectStrataPromise o r = says r ≡ after (λ rows. accepted (sums_with rows)) o
 
 -- a stratum's sums of a kind are at most its lines, its row, and one interval
 abbrev pub most_of : ℕ
@@ -79,18 +83,18 @@ pub record TotalsOf (rows : List ProjectionRow) (t : Totals) : Type 0 where
   pub over_most : t.over ≤ most_of * most_strata
   pub under_most : t.under ≤ most_of * most_strata
 
--- the walk over the strata, and what its rows add to
-pub record Walked (o : Outcome (List ProjectionRow)) (r : Projections) : Type 0 where
-  pub answer : strata_says r.answer ≡ after (λ rows. accepted (length rows)) o
-  pub rows : r.rows ≡ pad_to most_strata no_projection (rows_in o)
-  pub small : Smalls r.rows
+-- the walk over the strata, and that its rows are small
+pub record Walked (o : Outcome (List ProjectionRow)) (r : Result (List ProjectionRow) Refusal) : Type 0 where
+  pub answer : says r ≡ after (λ rows. accepted (pad_to most_strata no_projection rows)) o
+  pub small : IfOk r (λ rows. Smalls rows)
 
-abbrev pub with_totals : Projections → ProjectedStrata
-with_totals walked =
+-- so many rows in an array, with what they add to
+abbrev pub with_totals : ℕ → List ProjectionRow → ProjectedStrata
+with_totals strata rows =
     record {
-      answer = walked.answer;
-      over = over_all walked.rows;
-      under = under_all walked.rows;
-      net = pos (over_all walked.rows) -ℤ pos (under_all walked.rows);
-      rows = walked.rows;
+      strata = strata;
+      over = over_all rows;
+      under = under_all rows;
+      net = pos (over_all rows) -ℤ pos (under_all rows);
+      rows = rows;
     }

@@ -3,11 +3,11 @@ ghost use Rattle.std.specs.Prelude.{length};
 ghost use Rattle.strata.specs.Strata.{parts_of};
 ghost use Rattle.stratified.specs.Marks.{Underway, MarkedStrata, DrawStrataPromise};
 
-use draw::DrawAnswer;
-use strata::{Row, StrataAnswer};
-use terms::Cent;
+use strata::Row;
+use terms::{Cent, Refusal};
 
 // Marks every stratum at its own interval and start, and answers how many lines are drawn.
+// The lists stay apart: no struct of three loans of their own lifetimes is proved here.
 fn mark_strata(
     ledger: &[u64],
     counts: &[u64],
@@ -20,15 +20,12 @@ fn mark_strata(
 {
     let mut drawn: u64 = 0;
     let mut at: usize = 0;
-    let mut h: usize = 0;
-    while h < counts.len() {
-        let to = at + counts[h] as usize;
-        let row = rows[h];
-        let interval = row.figures.interval;
+    for (h, count) in counts.iter().enumerate() {
+        let to = at + *count as usize;
+        let interval = rows[h].figures.interval;
         let start = Cent(starts[h]);
         drawn += draw::mark_lines(&ledger[at..to], interval, start, &mut marks[at..to]);
         at = to;
-        h += 1;
     }
     drawn
 }
@@ -40,17 +37,9 @@ pub fn draw_strata(
     n: u64,
     starts: &[u64],
     marks: &mut [u8],
-) -> DrawAnswer
+) -> Result<u64, Refusal>
     ensures { DrawStrataPromise ledger.now counts.now n starts.now marks.old result marks.new }
 {
-    let plan = strata::starts::started(ledger, counts, n, starts, marks.len());
-    let answer = plan.answer;
-    let rows = plan.rows;
-    match answer {
-        StrataAnswer::Refused(why) => DrawAnswer::Refused(why),
-        StrataAnswer::Strata(_) => {
-            let drawn = mark_strata(ledger, counts, rows, starts, marks);
-            DrawAnswer::Drawn(drawn)
-        }
-    }
+    let plan = strata::starts::started(ledger, counts, n, starts, marks.len())?;
+    Ok(mark_strata(ledger, counts, plan.rows, starts, marks))
 }

@@ -1,14 +1,13 @@
 // The projection by strata: each stratum by itself, and what they add to.
-ghost use Rattle.std.specs.Prelude.{◌≡◌, length};
-ghost use Rattle.terms.specs.Outcome.{refused_by};
-ghost use Rattle.project.specs.Project.{project_says, projection_at, Ready};
+ghost use Rattle.std.specs.Prelude.{◌≡◌, length, []};
+ghost use Rattle.terms.specs.Outcome.{says, left};
 ghost use Rattle.strata.specs.Strata.{parts_of};
 ghost use Rattle.stratified.specs.Marks.{Underway};
-ghost use Rattle.stratified.specs.Projection.{no_projection, projection_row, projected_from, project_strata_of, Walked, ProjectStrataPromise};
+ghost use Rattle.stratified.specs.Projection.{projection_row, projected_from, sums_with, project_strata_of, Walked, ProjectStrataPromise};
 
 use crate::totals::with_totals;
-use project::{ProjectAnswer, Projection};
-use strata::{Row, StrataAnswer};
+use project::{Entered, Projection};
+use strata::Row;
 use terms::{Cent, Item, Refusal};
 
 // A stratum's draws and interval, and both sums of each kind of error; all 0 where it has no book value.
@@ -22,17 +21,11 @@ pub struct ProjectionRow {
     pub under_sampled: u64,
 }
 
-// The strata's rows, or the first refusal.
-#[derive(Clone, Copy)]
-pub struct Projections {
-    pub answer: StrataAnswer,
-    pub rows: [ProjectionRow; 32],
-}
-
-// The same with the projected error of each kind over all strata, and the net. There is no limit and no verdict: document 002 bars them with strata.
+// How many strata there are, the projected error of each kind over all of them, the net, and their rows: all 0 past the last.
+// There is no limit and no verdict: document 002 bars them with strata.
 #[derive(Clone, Copy)]
 pub struct ProjectedStrata {
-    pub answer: StrataAnswer,
+    pub strata: u64,
     pub over: u64,
     pub under: u64,
     pub net: i64,
@@ -40,33 +33,14 @@ pub struct ProjectedStrata {
 }
 
 // The row past the last stratum.
-fn no_projection() -> ProjectionRow
-    ensures { result ≡ no_projection }
-{
-    ProjectionRow {
-        draws: 0,
-        interval: 0,
-        full: 0,
-        sampled: 0,
-        under_full: 0,
-        under_sampled: 0,
-    }
-}
-
-// The projection of one stratum, whose first line has the number `first` in the whole ledger.
-fn project_part(
-    first: Item,
-    part: &[u64],
-    interval: u64,
-    start: Cent,
-    errors: &[i64],
-) -> ProjectAnswer
-    requires { Ready first.0 interval start.0 part.now errors.now }
-    ensures { project_says result ≡ projection_at first.0 interval start.0 part.now errors.now }
-{
-    let mut none = [0u64; 0];
-    project::gather(first, part, interval, start, errors, &mut none)
-}
+const NO_PROJECTION: ProjectionRow = ProjectionRow {
+    draws: 0,
+    interval: 0,
+    full: 0,
+    sampled: 0,
+    under_full: 0,
+    under_sampled: 0,
+};
 
 // A stratum's row, from its plan and its projection.
 fn row_with(row: Row, sums: Projection) -> ProjectionRow
@@ -82,49 +56,35 @@ fn row_with(row: Row, sums: Projection) -> ProjectionRow
     }
 }
 
-// A refusal: every row is 0.
-fn refuse_rows(why: Refusal) -> Projections
-    ensures { Walked (refused_by why) result }
-{
-    let none = no_projection();
-    let rows = [none; 32];
-    Projections {
-        answer: StrataAnswer::Refused(why),
-        rows,
-    }
-}
-
-// The strata one after another, in ledger order, so that the first line that breaks a rule refuses.
+// The strata one after another, in ledger order, so that the first line that breaks a rule refuses. A line's number is that in the whole ledger.
 fn project_rows(
     ledger: &[u64],
     counts: &[u64],
     plan: [Row; 32],
     starts: &[u64],
     errors: &[i64],
-) -> Projections
+) -> Result<[ProjectionRow; 32], Refusal>
     requires { Underway ledger.now counts.now plan starts.now (length errors.now) }
     ensures { Walked (projected_from 0 (parts_of counts.now ledger.now) plan starts.now (parts_of counts.now errors.now)) result }
 {
-    let none = no_projection();
-    let mut rows = [none; 32];
+    let mut none = [0u64; 0];
+    let mut rows = [NO_PROJECTION; 32];
     let mut at: usize = 0;
-    let mut h: usize = 0;
-    while h < counts.len() {
-        let to = at + counts[h] as usize;
+    for (h, count) in counts.iter().enumerate() {
+        let to = at + *count as usize;
         let row = plan[h];
-        let interval = row.figures.interval;
-        let start = Cent(starts[h]);
-        match project_part(Item(at), &ledger[at..to], interval, start, &errors[at..to]) {
-            ProjectAnswer::Refused(why) => return refuse_rows(why),
-            ProjectAnswer::Projected(sums) => rows[h] = row_with(row, sums),
-        }
+        let entered = Entered {
+            first: Item(at),
+            ledger: &ledger[at..to],
+            errors: &errors[at..to],
+            interval: row.figures.interval,
+            start: Cent(starts[h]),
+        };
+        let sums = entered.gather(&mut none)?;
+        rows[h] = row_with(row, sums);
         at = to;
-        h += 1;
     }
-    Projections {
-        answer: StrataAnswer::Strata(h as u64),
-        rows,
-    }
+    Ok(rows)
 }
 
 // The projection by strata: a row for each, and the projected error of each kind and the net over all strata.
@@ -134,20 +94,23 @@ pub fn project_strata(
     n: u64,
     starts: &[u64],
     errors: &[i64],
-) -> ProjectedStrata
+) -> Result<ProjectedStrata, Refusal>
     ensures { ProjectStrataPromise (project_strata_of ledger.now counts.now n starts.now errors.now) result }
 {
-    let plan = strata::starts::started(ledger, counts, n, starts, errors.len());
-    let answer = plan.answer;
-    let rows = plan.rows;
-    match answer {
-        StrataAnswer::Refused(why) => {
-            let none = refuse_rows(why);
-            with_totals(none)
-        }
-        StrataAnswer::Strata(_) => {
-            let walked = project_rows(ledger, counts, rows, starts, errors);
-            with_totals(walked)
-        }
-    }
+    let plan = strata::starts::started(ledger, counts, n, starts, errors.len())?;
+    let rows = project_rows(ledger, counts, plan.rows, starts, errors)?;
+    Ok(with_totals(counts.len() as u64, rows))
+}
+
+// The projection, or no strata and no row where it is refused.
+pub fn projected_or_none(projected: Result<ProjectedStrata, Refusal>) -> ProjectedStrata
+    ensures { result ≡ left (λ p. p) (sums_with []) (says projected) }
+{
+    projected.unwrap_or(ProjectedStrata {
+        strata: 0,
+        over: 0,
+        under: 0,
+        net: 0,
+        rows: [NO_PROJECTION; 32],
+    })
 }

@@ -2,7 +2,7 @@
 ghost use Rattle.std.specs.Prelude.{◌≡◌};
 ghost use Rattle.stratified.specs.Projection.{with_totals, Smalls, TotalsOf};
 
-use crate::projection::{ProjectedStrata, ProjectionRow, Projections};
+use crate::projection::{ProjectedStrata, ProjectionRow};
 
 // The projected error of each kind.
 #[derive(Clone, Copy)]
@@ -18,30 +18,24 @@ fn totals_of(rows: [ProjectionRow; 32]) -> Totals
 {
     let mut over: u64 = 0;
     let mut under: u64 = 0;
-    let mut h: usize = 0;
-    while h < 32 {
-        let row = rows[h];
+    for row in &rows {
         over += row.full + row.sampled;
         under += row.under_full + row.under_sampled;
-        h += 1;
     }
     Totals { over, under }
 }
 
-// The rows with what they add to.
-pub fn with_totals(walked: Projections) -> ProjectedStrata
-    requires { Smalls walked.rows }
-    ensures { result ≡ with_totals walked }
+// So many strata's rows with what they add to.
+pub fn with_totals(strata: u64, rows: [ProjectionRow; 32]) -> ProjectedStrata
+    requires { Smalls rows }
+    ensures { result ≡ with_totals strata rows }
 {
-    let answer = walked.answer;
-    let rows = walked.rows;
-    let sums = totals_of(rows);
-    let net = signed::net_of(sums.over, sums.under);
+    let Totals { over, under } = totals_of(rows);
     ProjectedStrata {
-        answer,
-        over: sums.over,
-        under: sums.under,
-        net,
+        strata,
+        over,
+        under,
+        net: signed::net_of(over, under),
         rows,
     }
 }

@@ -1,5 +1,7 @@
 -- Two teams on one table of marks are apart: call by call, from the plain operation on the own bits. Assumes nothing.
 use Prim.Native.Nat.{ℕ}
+use Rattle.terms.specs.declared.Refusal.{Refusal}
+use Rattle.std.specs.Prelude.{Result}
 use mathlib.Core.Path.{◌≡◌, sym, ap, subst, ◌∙◌}
 use mathlib.Core.Bool.{false}
 use mathlib.Core.List.{List}
@@ -8,7 +10,6 @@ use lib.ListN.{length, get_or}
 use Rattle.terms.specs.Outcome.{accepted}
 use Rattle.bits.specs.declared.Bits.{Bits}
 use Rattle.bits.specs.Own.{bits_of, bit, owns, TwoTeams}
-use Rattle.findings.specs.declared.PostAnswer.{PostAnswer}
 use Rattle.findings.specs.Findings.{PostPromise}
 use Rattle.findings.specs.Batch.{PostAllPromise}
 use Rattle.findings.proofs.Answers.{post_once, post_all_once}
@@ -50,7 +51,7 @@ module _ (ledger : List ℕ) where
     other_bits (drawing n start) marks marks' r p = on_other (draw_plain ledger n start) bits (p.acting bits known) (team_small team bits known)
 
     -- a call that posts
-    post_alone : (call : PostCall) (marks others : List ℕ) (errors errors' errors'' : List ℤ) (r s : PostAnswer) → bits_of bits marks ≡ bits_of bits others →
+    post_alone : (call : PostCall) (marks others : List ℕ) (errors errors' errors'' : List ℤ) (r s : Result ℕ Refusal) → bits_of bits marks ≡ bits_of bits others →
         PostCalled team ledger call marks errors r errors' → PostCalled team ledger call others errors s errors'' → (r ≡ s) × (errors' ≡ errors'')
     post_alone (posting line error) marks others errors errors' errors'' r s e p q =
         post_once (subst (λ (own : List ℕ). PostPromise ledger own errors line error r errors') e (p.acting bits known)) (q.acting bits known)
@@ -84,7 +85,7 @@ module _ (ledger : List ℕ) where
     either (drawing n start) (drawing m begin) marks first both second back r r' s s' p q q' p' =
         on_either (draw_plain ledger n start) (draw_plain ledger m begin) two (p.acting bits known) (q.acting others known₂) (q'.acting others known₂) (p'.acting bits known)
 
-    post_either : (call : PostCall) (later : MarksCall) (marks marks' : List ℕ) (errors errors' errors'' : List ℤ) (r r' : PostAnswer) (s : AnswerTo later) →
+    post_either : (call : PostCall) (later : MarksCall) (marks marks' : List ℕ) (errors errors' errors'' : List ℤ) (r r' : Result ℕ Refusal) (s : AnswerTo later) →
         Called other ledger later marks s marks' → PostCalled team ledger call marks errors r errors' → PostCalled team ledger call marks' errors r' errors'' →
         (r ≡ r') × (errors' ≡ errors'')
     post_either call later marks marks' errors errors' errors'' r r' s m p q =

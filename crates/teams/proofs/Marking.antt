@@ -4,7 +4,6 @@ use native.Mathlib.Numerals.{add-one}
 use native.Mathlib.Omega.{arith}
 use mathlib.Core.Path.{◌≡◌, refl, sym, ap, subst, ◌∙◌}
 use mathlib.Core.List.{List, [], ◌∷◌}
-use borrow.Author.Tests.{lt-ltb, le-ltb, eq-eqb, ne_eqb}
 use lib.Dec.{eqb}
 use lib.ListN.{length, get_or, drop, set, length-set, drop_of_length-le}
 use lib.Seq.{drop-cons}
@@ -18,42 +17,11 @@ use Rattle.walk.specs.Walk.{ahead_after}
 use Rattle.walk.proofs.Walk.{Next, next_start, stepped}
 use Rattle.teams.specs.Teams.{mark_at, OwnMarked}
 
--- one line, as the code meets it: its mark in the split, its mark in the draw, and what that adds to the count
-module _ (J v : ℕ) where
-  pub full_is : J < v → 2 ≡ full_mark J v
-  full_is h = sym (simp (lt-ltb _ _ h))
-
-  pub other_is : v ≤ J → 0 ≡ full_mark J v
-  other_is h = sym (simp (le-ltb _ _ h))
-
-  module _ (next : ℕ) where
-    pub mark_full : J < v → 2 ≡ mark_at J next v
-    unfolding mark_at
-    mark_full h = sym (simp (lt-ltb _ _ h))
-
-    pub mark_drawn : v ≤ J → next < v → 1 ≡ mark_at J next v
-    unfolding mark_at
-    mark_drawn h l = sym (simp (le-ltb _ _ h, lt-ltb _ _ l))
-
-    pub mark_passed : v ≤ J → v ≤ next → 0 ≡ mark_at J next v
-    unfolding mark_at
-    mark_passed h l = sym (simp (le-ltb _ _ h, le-ltb _ _ l))
-
-module _ (mark : ℕ) where
-  pub drawn_one : mark ≡ 1 → ◌≡◌ {A = ℕ} 1 (pick (eqb mark 1) 1 0)
-  drawn_one e = sym (simp (eq-eqb _ _ e))
-
-  pub drawn_none : (mark ≡ 1 → ⊥) → ◌≡◌ {A = ℕ} 0 (pick (eqb mark 1) 1 0)
-  drawn_none e = sym (simp (ne_eqb _ _ e))
-
 -- the split's marks before a line are written
 pub record OwnFilling (bits : Bits) (J : ℕ) (ledger marks₀ marks : List ℕ) (line : ℕ) : Type 0 where
   pub inside : line ≤ length ledger
   pub same : length marks ≡ length ledger
   pub writing : Writing bits (with_bits bits marks₀ (full_marks J ledger)) marks line (full_marks J (drop line ledger))
-
-pub filling_none : {bits : Bits} {J : ℕ} {ledger marks : List ℕ} → length marks ≡ length ledger → OwnFilling bits J ledger marks marks 0
-filling_none {bits} {J} {ledger} {marks} same = record { inside = zero-le; same = same; writing = writing_none bits marks (full_marks J ledger) }
 
 module _ {bits : Bits} {J : ℕ} {ledger marks₀ marks : List ℕ} {line : ℕ} (at : OwnFilling bits J ledger marks₀ marks line) where
   pub filling_more : line < length ledger → (own : ℕ) {mark : ℕ} → own ≡ full_mark J (get_or ledger line 0) → mark ≡ with_own bits (get_or marks line 0) own →

@@ -6,21 +6,22 @@ use mathlib.Core.Bool.{Bool, true, false}
 use mathlib.Core.List.{List, [], ◌∷◌}
 use lib.Dec.{ltb}
 use lib.ListN.{length}
-use Rattle.terms.specs.Outcome.{Outcome, accepted, refused, left}
+use Rattle.terms.specs.Outcome.{Outcome, accepted, refused, left, says}
 use Rattle.terms.specs.Numbers.{AllUpTo}
 use Rattle.terms.proofs.Outcomes.{refused_first}
+use Rattle.terms.proofs.Answers.{says_once}
 use Rattle.terms.proofs.Tests.{by_test}
-use Rattle.split.specs.Split.{split_says, split_of, full_marks, marks_of, SplitPromise}
+use Rattle.split.specs.Split.{split_of, full_marks, marks_of, SplitPromise}
 use Rattle.split.specs.Start.{figures_for}
 use Rattle.split.proofs.Facts.{split_facts}
 use Rattle.split.proofs.Marks.{full_length}
-use Rattle.split.proofs.Once.{split_answer, split_once}
+use Rattle.split.proofs.Once.{split_once}
 use Rattle.split.proofs.Start.{start_facts}
 use Rattle.draw.specs.Points.{covers}
 use Rattle.draw.specs.Row.{full, cents, mark_by, marks_from, draw_marks, ones}
-use Rattle.draw.specs.Draw.{draw_says, marks_at, draw_of, DrawPromise}
+use Rattle.draw.specs.Draw.{marks_at, draw_of, DrawPromise}
 use Rattle.draw.proofs.Laws.{draw_marks_lem, marks_length}
-use Rattle.draw.proofs.Once.{draw_answer, draw_once}
+use Rattle.draw.proofs.Once.{draw_once}
 
 -- it has one answer and one list of marks; these are as many as before, and at most 3 where they were; a refusal leaves them
 pub record Plain {A R : Type 0} (says : R → Outcome A) (Promise : List ℕ → R → List ℕ → Type 0) : Type 0 where
@@ -58,10 +59,10 @@ from_small J s o (v ∷ vs) = (mark_small (full J v) (covers J s o v), from_smal
 draw_small : (J s : ℕ) (ledger : List ℕ) → AllUpTo 3 (draw_marks J s ledger)
 draw_small J s ledger = subst (AllUpTo 3) (sym (draw_marks_lem J s ledger)) (from_small J s 0 ledger)
 
-pub split_plain : (ledger : List ℕ) (n : ℕ) → Plain split_says (SplitPromise ledger n)
+pub split_plain : (ledger : List ℕ) (n : ℕ) → Plain says (SplitPromise ledger n)
 split_plain ledger n =
     record {
-      answer_once = λ o r s p q. split_answer r s p q;
+      answer_once = λ o r s p q. says_once r s p q;
       once = λ marks r s b c p q. split_once p q;
       long = λ marks r b p.
           ap length p.marks_left
@@ -75,10 +76,10 @@ no_figures : (ledger : List ℕ) (n start beside : ℕ) {k q : ℕ} → draw_of 
 unfolding draw_of
 no_figures ledger n start beside e = refused_first (λ f. ones (marks_at ledger start f)) (figures_for ledger n start beside) (sym e)
 
-pub draw_plain : (ledger : List ℕ) (n start : ℕ) → Plain draw_says (DrawPromise ledger n start)
+pub draw_plain : (ledger : List ℕ) (n start : ℕ) → Plain says (DrawPromise ledger n start)
 draw_plain ledger n start =
     record {
-      answer_once = λ o r s p q. draw_answer r s p q;
+      answer_once = λ o r s p q. says_once r s p q;
       once = λ marks r s b c p q. draw_once p q;
       long = λ marks r b p.
           ap length p.marks_left

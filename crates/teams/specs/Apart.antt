@@ -1,14 +1,11 @@
 -- What holds of the calls of two teams that keep their marks in one table: neither goes by the other's bits nor touches them, and their calls may be
 -- made in either order. Definitions: nothing is assumed.
-use Rattle.std.specs.Prelude.{ℕ, ◌≡◌, false, List, ℤ, length, get_or}
-use Rattle.terms.specs.Outcome.{accepted, refused}
+use Rattle.std.specs.Prelude.{ℕ, ◌≡◌, false, List, ℤ, length, get_or, Result}
+use Rattle.terms.specs.declared.Refusal.{Refusal}
+use Rattle.split.specs.declared.Figures.{Figures}
+use Rattle.terms.specs.Outcome.{accepted, refused, says}
 use Rattle.bits.specs.declared.Bits.{Bits}
 use Rattle.bits.specs.Own.{bits_of, bit, owns, TwoTeams}
-use Rattle.split.specs.declared.SplitAnswer.{SplitAnswer}
-use Rattle.split.specs.Split.{split_says}
-use Rattle.draw.specs.declared.DrawAnswer.{DrawAnswer}
-use Rattle.draw.specs.Draw.{draw_says}
-use Rattle.findings.specs.declared.PostAnswer.{PostAnswer}
 use Rattle.teams.specs.Teams.{team_of, TeamSplitPromise, TeamDrawPromise, TeamPostPromise, TeamPostAllPromise}
 
 -- a call that writes marks: the split with a number of draws, or the draw with them from a start
@@ -17,8 +14,8 @@ pub data MarksCall : Type 0 where
   drawing : ℕ → ℕ → MarksCall
 
 abbrev pub AnswerTo : MarksCall → Type 0
-AnswerTo (splitting n) = SplitAnswer
-AnswerTo (drawing n start) = DrawAnswer
+AnswerTo (splitting n) = (Result Figures Refusal)
+AnswerTo (drawing n start) = (Result ℕ Refusal)
 
 -- a team's call on a ledger and marks came to this answer and these marks
 abbrev pub Called : ℕ → List ℕ → (call : MarksCall) → List ℕ → AnswerTo call → List ℕ → Type 0
@@ -27,8 +24,8 @@ Called team ledger (drawing n start) marks r marks' = TeamDrawPromise team ledge
 
 -- the answer is this refusal
 abbrev pub RefusedBy : (call : MarksCall) → AnswerTo call → ℕ → ℕ → Type 0
-RefusedBy (splitting n) r number place = split_says r ≡ refused number place
-RefusedBy (drawing n start) r number place = draw_says r ≡ refused number place
+RefusedBy (splitting n) r number place = says r ≡ refused number place
+RefusedBy (drawing n start) r number place = says r ≡ refused number place
 
 -- a call that reads marks: one finding, or a batch of them
 pub data PostCall : Type 0 where
@@ -36,7 +33,7 @@ pub data PostCall : Type 0 where
   batch : List ℕ → List ℤ → PostCall
 
 -- a team's call on a ledger, marks and errors came to this answer and these errors
-abbrev pub PostCalled : ℕ → List ℕ → PostCall → List ℕ → List ℤ → PostAnswer → List ℤ → Type 0
+abbrev pub PostCalled : ℕ → List ℕ → PostCall → List ℕ → List ℤ → Result ℕ Refusal → List ℤ → Type 0
 PostCalled team ledger (posting line error) marks errors r errors' = TeamPostPromise team ledger marks errors line error r errors'
 PostCalled team ledger (batch lines found) marks errors r errors' = TeamPostAllPromise team ledger marks errors lines found r errors'
 
@@ -47,7 +44,7 @@ pub record Apart (ledger : List ℕ) : Type 0 where
       bits_of bits marks ≡ bits_of bits others → Called team ledger call marks r marks' → Called team ledger call others s others' →
       (r ≡ s) × (bits_of bits marks' ≡ bits_of bits others')
   -- and the same errors
-  pub post_alone : (team : ℕ) (bits : Bits) → team_of team ≡ accepted bits → (call : PostCall) (marks others : List ℕ) (errors errors' errors'' : List ℤ) (r s : PostAnswer) →
+  pub post_alone : (team : ℕ) (bits : Bits) → team_of team ≡ accepted bits → (call : PostCall) (marks others : List ℕ) (errors errors' errors'' : List ℤ) (r s : Result ℕ Refusal) →
       bits_of bits marks ≡ bits_of bits others → PostCalled team ledger call marks errors r errors' → PostCalled team ledger call others errors s errors'' →
       (r ≡ s) × (errors' ≡ errors'')
   -- every bit that is not the team's own, the other team's and bits 4 to 7, is at exit what it was
@@ -65,6 +62,6 @@ pub record Apart (ledger : List ℕ) : Type 0 where
       (r ≡ r') × (s ≡ s') × (both ≡ turned)
   -- a team posts before the other's call or after it
   pub post_either : (team other : ℕ) (bits others : Bits) → team_of team ≡ accepted bits → team_of other ≡ accepted others → TwoTeams bits others →
-      (call : PostCall) (later : MarksCall) (marks marks' : List ℕ) (errors errors' errors'' : List ℤ) (r r' : PostAnswer) (s : AnswerTo later) →
+      (call : PostCall) (later : MarksCall) (marks marks' : List ℕ) (errors errors' errors'' : List ℤ) (r r' : Result ℕ Refusal) (s : AnswerTo later) →
       Called other ledger later marks s marks' → PostCalled team ledger call marks errors r errors' → PostCalled team ledger call marks' errors r' errors'' →
       (r ≡ r') × (errors' ≡ errors'')

@@ -1,23 +1,16 @@
 -- The operations that read or write marks, by the own bits of the acting team: each is the plain operation on them. Definitions: nothing is assumed.
-use Rattle.std.specs.Prelude.{ℕ, ◌≡◌, List, eqb, ltb, ℤ}
-use Rattle.terms.specs.Outcome.{Outcome, accepted, refused, refused_by}
+use Rattle.std.specs.Prelude.{ℕ, ◌≡◌, List, eqb, ltb, ℤ, Result}
+use Rattle.terms.specs.declared.Refusal.{Refusal}
+use Rattle.split.specs.declared.Figures.{Figures}
+use Rattle.terms.specs.Outcome.{Outcome, accepted, refused, says}
 use Rattle.terms.specs.Numbers.{pick}
 use Rattle.bits.specs.declared.Bits.{Bits}
 use Rattle.bits.specs.Own.{bits_of, with_bits}
-use Rattle.split.specs.declared.SplitAnswer.{SplitAnswer}
-use Rattle.split.specs.Split.{split_says, SplitPromise}
-use Rattle.draw.specs.declared.DrawAnswer.{DrawAnswer}
+use Rattle.split.specs.Split.{SplitPromise}
 use Rattle.draw.specs.Row.{full, mark_by, draw_marks, ones}
-use Rattle.draw.specs.Draw.{draw_says, DrawPromise}
-use Rattle.findings.specs.declared.PostAnswer.{PostAnswer}
-use Rattle.findings.specs.Findings.{post_says, PostPromise}
+use Rattle.draw.specs.Draw.{DrawPromise}
+use Rattle.findings.specs.Findings.{PostPromise}
 use Rattle.findings.specs.Batch.{PostAllPromise}
-use Rattle.teams.specs.declared.TeamAnswer.{TeamAnswer}
-
--- what an answer says: the own bits of a team, or a refusal's number and place
-abbrev pub team_says : TeamAnswer → Outcome Bits
-team_says (TeamAnswer.Known bits) = accepted bits
-team_says (TeamAnswer.Refused why) = refused_by why
 
 -- a team is a byte: A is 0x41, B is 0x42
 abbrev pub team_a : ℕ
@@ -51,16 +44,16 @@ pub record ByTeam {A R B : Type 0} (says : R → Outcome A) (team : ℕ) (Acting
   pub acting : (bits : Bits) → team_of team ≡ accepted bits → Acting bits
 
 -- what each operation promises
-abbrev pub TeamSplitPromise : ℕ → List ℕ → ℕ → List ℕ → SplitAnswer → List ℕ → Type 0
-TeamSplitPromise team ledger n marks r marks' = ByTeam split_says team (λ bits. OnBits (SplitPromise ledger n) bits marks r marks') marks r marks'
+abbrev pub TeamSplitPromise : ℕ → List ℕ → ℕ → List ℕ → Result Figures Refusal → List ℕ → Type 0
+TeamSplitPromise team ledger n marks r marks' = ByTeam says team (λ bits. OnBits (SplitPromise ledger n) bits marks r marks') marks r marks'
 
-abbrev pub TeamDrawPromise : ℕ → List ℕ → ℕ → ℕ → List ℕ → DrawAnswer → List ℕ → Type 0
-TeamDrawPromise team ledger n start marks r marks' = ByTeam draw_says team (λ bits. OnBits (DrawPromise ledger n start) bits marks r marks') marks r marks'
+abbrev pub TeamDrawPromise : ℕ → List ℕ → ℕ → ℕ → List ℕ → Result ℕ Refusal → List ℕ → Type 0
+TeamDrawPromise team ledger n start marks r marks' = ByTeam says team (λ bits. OnBits (DrawPromise ledger n start) bits marks r marks') marks r marks'
 
-abbrev pub TeamPostPromise : ℕ → List ℕ → List ℕ → List ℤ → ℕ → ℤ → PostAnswer → List ℤ → Type 0
+abbrev pub TeamPostPromise : ℕ → List ℕ → List ℕ → List ℤ → ℕ → ℤ → Result ℕ Refusal → List ℤ → Type 0
 TeamPostPromise team ledger marks errors line error r errors' =
-    ByTeam post_says team (λ bits. PostPromise ledger (bits_of bits marks) errors line error r errors') errors r errors'
+    ByTeam says team (λ bits. PostPromise ledger (bits_of bits marks) errors line error r errors') errors r errors'
 
-abbrev pub TeamPostAllPromise : ℕ → List ℕ → List ℕ → List ℤ → List ℕ → List ℤ → PostAnswer → List ℤ → Type 0
+abbrev pub TeamPostAllPromise : ℕ → List ℕ → List ℕ → List ℤ → List ℕ → List ℤ → Result ℕ Refusal → List ℤ → Type 0
 TeamPostAllPromise team ledger marks errors lines found r errors' =
-    ByTeam post_says team (λ bits. PostAllPromise ledger (bits_of bits marks) errors lines found r errors') errors r errors'
+    ByTeam says team (λ bits. PostAllPromise ledger (bits_of bits marks) errors lines found r errors') errors r errors'

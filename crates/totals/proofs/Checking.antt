@@ -1,4 +1,4 @@
--- A check that is not refused says Right exactly where the summary agrees, and else names the first wrong figure. Assumes nothing.
+-- A check that is not refused finds no wrong figure exactly where the summary agrees, and else names the first wrong figure. Assumes nothing.
 use Prim.Native.Nat.{ℕ, zero, suc, ◌+◌, ◌<◌}
 use mathlib.Core.Path.{◌≡◌, refl, sym, ap, subst, ◌∙◌}
 use mathlib.Core.List.{List, [], ◌∷◌}
@@ -11,8 +11,7 @@ use Rattle.terms.specs.Limits.{most_lines}
 use Rattle.terms.proofs.Outcomes.{after_accepted}
 use Rattle.terms.proofs.Tests.{by_test}
 use Rattle.ledger.specs.Ledger.{running_total}
-use Rattle.totals.specs.declared.Compared.{Compared}
-use Rattle.totals.specs.declared.Compared.TheVariants.{Right, Wrong}
+use Rattle.std.specs.Prelude.{Option, Some, None}
 use Rattle.totals.specs.Summary.{in_use, summary_for, shape_of}
 use Rattle.totals.specs.Comparison.{first_wrong, compared_of, FirstWrong}
 use Rattle.totals.specs.Agreement.{CheckDecides}
@@ -20,16 +19,16 @@ use Rattle.totals.proofs.Shapes.{in_shape}
 use Rattle.totals.proofs.Agreeing.{agrees_one, agrees_exactly, summary_long}
 
 -- figures that are right, and figures that are found right
-right_same : (xs ys : List ℕ) (b : ℕ) → length ys ≡ length xs → first_wrong b xs ys ≡ Right → ys ≡ xs
+right_same : (xs ys : List ℕ) (b : ℕ) → length ys ≡ length xs → first_wrong b xs ys ≡ None → ys ≡ xs
 unfolding first_wrong
 right_same [] [] b h e = refl
 right_same [] (y ∷ ys) b h e = absurd (omega arith)
 right_same (x ∷ xs) [] b h e = absurd (omega arith)
 right_same (x ∷ xs) (y ∷ ys) b h e =
     let later = right_same xs ys (suc b) (omega arith) in
-    by_test (λ v. v ≡ Right → (y ∷ ys) ≡ (x ∷ xs)) (eqb y x) (λ p e. let q = eqb-true y x p in cc (later e)) (λ p e. let z : ◌≡◌ {A = ℕ} 0 1 = cc in absurd (omega arith)) e
+    by_test (λ v. v ≡ None → (y ∷ ys) ≡ (x ∷ xs)) (eqb y x) (λ p e. let q = eqb-true y x p in cc (later e)) (λ p e. let z : ◌≡◌ {A = ℕ} 0 1 = cc in absurd (omega arith)) e
 
-same_right : (xs : List ℕ) (b : ℕ) → first_wrong b xs xs ≡ Right
+same_right : (xs : List ℕ) (b : ℕ) → first_wrong b xs xs ≡ None
 unfolding first_wrong
 same_right [] b = refl
 same_right (x ∷ xs) b = simp (eq-eqb x x refl) (same_right xs (suc b))
@@ -42,24 +41,24 @@ later_wrong x y xs ys i e w = record { inside = omega (arith, w.inside); wrong =
     from zero h = e
     from (suc j) h = w.before j (omega arith)
 
-wrong_first : (xs ys : List ℕ) (b w : ℕ) → length ys ≡ length xs → first_wrong b xs ys ≡ Wrong w → (i : ℕ) × (w ≡ b + i) × FirstWrong xs ys i
+wrong_first : (xs ys : List ℕ) (b w : ℕ) → length ys ≡ length xs → first_wrong b xs ys ≡ Some w → (i : ℕ) × (w ≡ b + i) × FirstWrong xs ys i
 unfolding first_wrong
 wrong_first [] ys b w h e = let z : ◌≡◌ {A = ℕ} 0 1 = cc in absurd (omega arith)
 wrong_first (x ∷ xs) [] b w h e = absurd (omega arith)
 wrong_first (x ∷ xs) (y ∷ ys) b w h e =
     let later = wrong_first xs ys (suc b) w (omega arith) in
-    by_test (λ v. v ≡ Wrong w → (i : ℕ) × (w ≡ b + i) × FirstWrong (x ∷ xs) (y ∷ ys) i) (eqb y x)
+    by_test (λ v. v ≡ Some w → (i : ℕ) × (w ≡ b + i) × FirstWrong (x ∷ xs) (y ∷ ys) i) (eqb y x)
     (λ p f. let r = later f in (suc r.0, omega (arith, r.1), later_wrong x y xs ys r.0 (eqb-true y x p) r.2))
     (λ p f. let same : b ≡ w = cc in
     (0, omega arith, record { inside = omega arith; wrong = eqb-false y x p; before = λ i l. absurd (omega arith) })) e
 
 module _ (room : List ℕ) (count : ℕ) (summary : List ℕ) where
   -- an accepted check compared figures of the right number
-  compared_is : (compared : Compared) → compared_of room count summary ≡ accepted compared →
+  compared_is : (compared : Option ℕ) → compared_of room count summary ≡ accepted compared →
       (first_wrong 0 (summary_for room count) summary ≡ compared) × (length summary ≡ length (summary_for room count))
   unfolding compared_of
   compared_is compared e =
-      let compare : ℕ → Outcome Compared = λ total. accepted (first_wrong 0 (summary_for room count) summary) in
+      let compare : ℕ → Outcome (Option ℕ) = λ total. accepted (first_wrong 0 (summary_for room count) summary) in
       let a = after_accepted (λ many. after compare (running_total (in_use room count))) (shape_of most_lines count (length room) (length summary)) compared e in
       let t = after_accepted compare (running_total (in_use room count)) compared a.2 in
       let f = in_shape _ _ _ _ _ a.1 in
@@ -74,7 +73,7 @@ module _ (room : List ℕ) (count : ℕ) (summary : List ℕ) where
               λ agrees. sym is.0 ∙ ap (first_wrong 0 (summary_for room count)) (agrees_one room count summary agrees) ∙ same_right (summary_for room count) 0,
             );
         wrong = λ block e.
-            let is = compared_is (Wrong block) e in
+            let is = compared_is (Some block) e in
             let r = wrong_first (summary_for room count) summary 0 block is.1 is.0 in
             let same : r.0 ≡ block = omega (arith, r.1) in
             subst (λ (i : ℕ). FirstWrong (summary_for room count) summary i) same r.2;

@@ -6,7 +6,7 @@ use lib.ListN.{replicate}
 use Rattle.terms.specs.Outcome.{accepted, refused}
 use Rattle.terms.specs.Numbers.{div_up}
 use Rattle.ledger.specs.Ledger.{running_from, running_total}
-use Rattle.totals.specs.declared.Compared.TheVariants.{Right, Wrong}
+use Rattle.std.specs.Prelude.{Some, None}
 use Rattle.totals.specs.Summary.{blocks, block_totals, summary_for, shape_of}
 use Rattle.totals.specs.Lookup.{line_within, block_in, find_in, find_of}
 use Rattle.totals.specs.Comparison.{first_wrong, compared_of}
@@ -41,14 +41,14 @@ unfolding find_of find_in block_in line_within shape_of blocks div_up
 no_block = refl
 
 -- the check: right; the first wrong block; the grand total last
-pub checked : compared_of room 300 right ≡ accepted Right
+pub checked : compared_of room 300 right ≡ accepted None
 unfolding compared_of first_wrong summary_for block_totals running_total running_from shape_of blocks div_up
 checked = refl
 
-pub checked_wrong : compared_of room 300 (512 ∷ 87 ∷ 1 ∷ 600 ∷ []) ≡ accepted (Wrong 1)
+pub checked_wrong : compared_of room 300 (512 ∷ 87 ∷ 1 ∷ 600 ∷ []) ≡ accepted (Some 1)
 unfolding compared_of first_wrong summary_for block_totals running_total running_from shape_of blocks div_up
 checked_wrong = refl
 
-pub checked_grand : compared_of room 300 (512 ∷ 88 ∷ 0 ∷ 601 ∷ []) ≡ accepted (Wrong 3)
+pub checked_grand : compared_of room 300 (512 ∷ 88 ∷ 0 ∷ 601 ∷ []) ≡ accepted (Some 3)
 unfolding compared_of first_wrong summary_for block_totals running_total running_from shape_of blocks div_up
 checked_grand = refl

@@ -1,9 +1,7 @@
 -- What is promised beyond the equations: what a summary that agrees answers, and what the check decides. Definitions: nothing is assumed.
-use Rattle.std.specs.Prelude.{ℕ, ◌≤◌, ◌<◌, ◌≡◌, List, ◌↔◌}
+use Rattle.std.specs.Prelude.{ℕ, ◌≤◌, ◌<◌, ◌≡◌, List, ◌↔◌, Option, Some, None}
 use Rattle.terms.specs.Outcome.{accepted, refused}
 use Rattle.terms.specs.Numbers.{sum}
-use Rattle.totals.specs.declared.Compared.{Compared}
-use Rattle.totals.specs.declared.Compared.TheVariants.{Right, Wrong}
 use Rattle.totals.specs.Summary.{in_use, summary_for, Agrees, grand_total_of}
 use Rattle.totals.specs.Lookup.{find_of, line_holding, HoldsCent}
 use Rattle.totals.specs.Comparison.{compared_of, FirstWrong}
@@ -16,7 +14,7 @@ pub record LedgerAlone (room : List ℕ) (count : ℕ) (summary : List ℕ) : Ty
   -- a line is answered exactly where it holds the cent in the whole ledger
   pub holds : (cent line : ℕ) → (find_of room count summary cent ≡ accepted line) ↔ HoldsCent (in_use room count) cent line
 
--- a check that is not refused says Right exactly where the summary agrees, and else names the first wrong figure, the grand total last
+-- a check that is not refused finds no wrong figure exactly where the summary agrees, and else names the first wrong figure, the grand total last
 pub record CheckDecides (room : List ℕ) (count : ℕ) (summary : List ℕ) : Type 0 where
-  pub right : (compared : Compared) → compared_of room count summary ≡ accepted compared → (compared ≡ Right) ↔ Agrees room count summary
-  pub wrong : (block : ℕ) → compared_of room count summary ≡ accepted (Wrong block) → FirstWrong (summary_for room count) summary block
+  pub right : (found : Option ℕ) → compared_of room count summary ≡ accepted found → (found ≡ None) ↔ Agrees room count summary
+  pub wrong : (block : ℕ) → compared_of room count summary ≡ accepted (Some block) → FirstWrong (summary_for room count) summary block

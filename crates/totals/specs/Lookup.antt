@@ -1,15 +1,16 @@
 -- The line that holds a cent: by the summary's figures as they stand, and in the ledger alone. Definitions: nothing is assumed.
-use Rattle.std.specs.Prelude.{ℕ, suc, ◌+◌, ◌*◌, ◌-◌, ◌≤◌, ◌<◌, ◌≡◌, List, [], ◌∷◌, ltb, length, take, drop, get_or}
+use Rattle.std.specs.Prelude.{ℕ, suc, ◌+◌, ◌*◌, ◌-◌, ◌≤◌, ◌<◌, ◌≡◌, List, [], ◌∷◌, ltb, length, take, drop, get_or, Result, Ok, Err}
+use Rattle.terms.specs.declared.Refusal.{Refusal}
+use Rattle.terms.specs.declared.Item.{Item}
 use Rattle.terms.specs.Outcome.{Outcome, accepted, refused, refused_by, after}
 use Rattle.terms.specs.Numbers.{pick, sum}
 use Rattle.terms.specs.Limits.{most_lines}
-use Rattle.totals.specs.declared.FindAnswer.{FindAnswer}
 use Rattle.totals.specs.Summary.{per_block, in_use, shape_of}
 
--- what an answer says: the number of the line
-abbrev pub find_says : FindAnswer → Outcome ℕ
-find_says (FindAnswer.Line item) = accepted item.0
-find_says (FindAnswer.Refused why) = refused_by why
+-- what an answer says: the number of the line. Not `says`: the code answers an item, and these definitions speak of line numbers
+abbrev pub find_says : Result Item Refusal → Outcome ℕ
+find_says (Ok item) = accepted item.0
+find_says (Err why) = refused_by why
 
 -- from a line's number on, the first line that is more than what is left of the cent; 31 with the block where there is none
 unfoldable pub line_within : ℕ → ℕ → ℕ → List ℕ → Outcome ℕ
@@ -34,7 +35,7 @@ unfoldable pub find_of : List ℕ → ℕ → List ℕ → ℕ → Outcome ℕ
 find_of room count summary cent = after (λ many. find_in many (in_use room count) summary cent) (shape_of most_lines count (length room) (length summary))
 
 -- what `find` promises
-pub record FindPromise (room : List ℕ) (count : ℕ) (summary : List ℕ) (cent : ℕ) (r : FindAnswer) : Type 0 where
+pub record FindPromise (room : List ℕ) (count : ℕ) (summary : List ℕ) (cent : ℕ) (r : Result Item Refusal) : Type 0 where
   pub answer : find_says r ≡ find_of room count summary cent
 
 -- a line holds a cent of the whole, unsplit ledger: the lines before it end at or before the cent, and the line ends after it

@@ -1,19 +1,10 @@
 -- The summary beside a room with a count of lines in use: when it agrees, building it, and the grand total as it stands. Definitions: nothing is assumed.
-use Rattle.std.specs.Prelude.{ℕ, zero, suc, ◌+◌, ◌*◌, ◌^◌, ◌≤◌, ◌<◌, ◌≡◌, List, [], ◌∷◌, ◌++◌, ltb, eqb, length, take, drop, get_or}
-use Rattle.terms.specs.Outcome.{Outcome, accepted, refused, refused_by, after, left}
+use Rattle.std.specs.Prelude.{ℕ, zero, suc, ◌+◌, ◌*◌, ◌^◌, ◌≤◌, ◌<◌, ◌≡◌, List, [], ◌∷◌, ◌++◌, ltb, eqb, length, take, drop, get_or, Result}
+use Rattle.terms.specs.declared.Refusal.{Refusal}
+use Rattle.terms.specs.Outcome.{Outcome, accepted, refused, after, left, says}
 use Rattle.terms.specs.Numbers.{pick, div_up, sum}
 use Rattle.terms.specs.Limits.{most_lines}
 use Rattle.ledger.specs.Ledger.{running_total}
-use Rattle.totals.specs.declared.{ShapeAnswer.ShapeAnswer, TotalAnswer.TotalAnswer}
-
--- what the answers say: the number of blocks; the grand total
-abbrev pub shape_says : ShapeAnswer → Outcome ℕ
-shape_says (ShapeAnswer.Blocks many) = accepted many
-shape_says (ShapeAnswer.Refused why) = refused_by why
-
-abbrev pub total_says : TotalAnswer → Outcome ℕ
-total_says (TotalAnswer.Total total) = accepted total
-total_says (TotalAnswer.Refused why) = refused_by why
 
 -- the entries of the room that one total stands for
 abbrev pub per_block : ℕ
@@ -68,13 +59,13 @@ unfoldable pub grand_total_of : List ℕ → ℕ → List ℕ → Outcome ℕ
 grand_total_of room count summary = after (λ many. accepted (get_or summary many 0)) (shape_of most_lines count (length room) (length summary))
 
 -- what `build` promises: the answer, and the summary, which a refusal leaves
-pub record BuildPromise (room : List ℕ) (count : ℕ) (summary : List ℕ) (r : TotalAnswer) (summary' : List ℕ) : Type 0 where
-  pub answer : total_says r ≡ build_of room count (length summary)
+pub record BuildPromise (room : List ℕ) (count : ℕ) (summary : List ℕ) (r : Result ℕ Refusal) (summary' : List ℕ) : Type 0 where
+  pub answer : says r ≡ build_of room count (length summary)
   pub summary_left : summary' ≡ left (built_summary room count) summary (build_of room count (length summary))
 
 -- what `total` promises
-pub record TotalPromise (room : List ℕ) (count : ℕ) (summary : List ℕ) (r : TotalAnswer) : Type 0 where
-  pub answer : total_says r ≡ grand_total_of room count summary
+pub record TotalPromise (room : List ℕ) (count : ℕ) (summary : List ℕ) (r : Result ℕ Refusal) : Type 0 where
+  pub answer : says r ≡ grand_total_of room count summary
 
 -- what the loops over the blocks ask
 pub record Fillable (lines : List ℕ) (many : ℕ) (summary : List ℕ) : Type 0 where

@@ -4,138 +4,76 @@
 mod blocks; // blocks.rt: the loops over the blocks, and over the lines of a block
 
 ghost use Rattle.std.specs.Prelude.{◌≡◌};
-ghost use Rattle.totals.specs.Summary.{blocks, shape_says, shape_of, BuildPromise, TotalPromise};
+ghost use Rattle.terms.specs.Outcome.{says};
+ghost use Rattle.totals.specs.Summary.{shape_of, BuildPromise, TotalPromise};
 ghost use Rattle.totals.specs.Lookup.{FindPromise};
 ghost use Rattle.totals.specs.Comparison.{CheckPromise};
 
-use ledger::LedgerAnswer;
 use terms::{Cent, Item, Refusal};
 
 // The entries of the room that one total stands for.
 pub const PER_BLOCK: usize = 256;
 
-// The blocks of a room that its count and its summary fit, or the first refusal.
-#[derive(Clone, Copy)]
-pub enum ShapeAnswer {
-    Blocks(usize),
-    Refused(Refusal),
-}
-
-// The grand total, or the first refusal.
-#[derive(Clone, Copy)]
-pub enum TotalAnswer {
-    Total(u64),
-    Refused(Refusal),
-}
-
-// The line that holds a cent, or the first refusal.
-#[derive(Clone, Copy)]
-pub enum FindAnswer {
-    Line(Item),
-    Refused(Refusal),
-}
-
-// The summary is right, or its first wrong block; the grand total counts as one more.
-#[derive(Clone, Copy)]
-pub enum Compared {
-    Right,
-    Wrong(u64),
-}
-
-// What the check finds, or the first refusal.
-#[derive(Clone, Copy)]
-pub enum CheckAnswer {
-    Checked(Compared),
-    Refused(Refusal),
-}
-
-// One block for every 256 entries of a room, and one for what is left.
-fn blocks_of(room: usize) -> usize
-    ensures { result ≡ blocks room }
-{
-    let whole = room / PER_BLOCK;
-    if room % PER_BLOCK == 0 {
-        return whole;
-    }
-    whole + 1
-}
-
 // Refusals 2, 13 and 21, in this order. `most` is the largest count of lines in use, `beside` the length of the summary.
-pub fn judge_shape(most: usize, count: usize, room: usize, beside: usize) -> ShapeAnswer
-    ensures { shape_says result ≡ shape_of most count room beside }
+#[tactic(auto, using(crate::proofs::Shapes::blocks_few), unfolding(crate::specs::Summary::shape_of, crate::specs::Summary::blocks, terms::specs::Numbers::div_up))]
+pub fn judge_shape(most: usize, count: usize, room: usize, beside: usize) -> Result<usize, Refusal>
+    ensures { says result ≡ shape_of most count room beside }
 {
     if count > most {
-        return ShapeAnswer::Refused(Refusal::TooManyLines);
+        return Err(Refusal::TooManyLines);
     }
     if count > room {
-        return ShapeAnswer::Refused(Refusal::LengthsDiffer);
+        return Err(Refusal::LengthsDiffer);
     }
-    let many = blocks_of(room);
+    let many = room.div_ceil(PER_BLOCK);
     if beside != many + 1 {
-        return ShapeAnswer::Refused(Refusal::WrongSummaryLength);
+        return Err(Refusal::WrongSummaryLength);
     }
-    ShapeAnswer::Blocks(many)
+    Ok(many)
 }
 
+// Room, count and summary stay three parameters below: C lends them so, and building writes the summary that the others read.
+
 // Writes the summary of the lines in use, and answers the grand total; a refused call leaves it.
-pub fn build(room: &[u64], count: usize, summary: &mut [u64]) -> TotalAnswer
+#[tactic(auto, unfolding(crate::specs::Summary::build_of, crate::specs::Summary::built_summary))]
+pub fn build(room: &[u64], count: usize, summary: &mut [u64]) -> Result<u64, Refusal>
     ensures { BuildPromise room.now count summary.old result summary.new }
 {
-    match judge_shape(terms::MOST_LINES, count, room.len(), summary.len()) {
-        ShapeAnswer::Refused(why) => TotalAnswer::Refused(why),
-        ShapeAnswer::Blocks(many) => {
-            let lines = &room[..count];
-            match ledger::judge_lines(lines) {
-                LedgerAnswer::Refused(why) => TotalAnswer::Refused(why),
-                LedgerAnswer::Total(total) => {
-                    blocks::fill(lines, many, total, summary);
-                    TotalAnswer::Total(total)
-                }
-            }
-        }
-    }
+    let many = judge_shape(terms::MOST_LINES, count, room.len(), summary.len())?;
+    let lines = &room[..count];
+    let total = ledger::judge_lines(lines)?;
+    blocks::fill(lines, many, total, summary);
+    Ok(total)
 }
 
 // The grand total as it stands in the summary.
-pub fn total(room: &[u64], count: usize, summary: &[u64]) -> TotalAnswer
+#[tactic(auto, using(crate::proofs::Shapes::judged_shape), unfolding(crate::specs::Summary::grand_total_of))]
+pub fn total(room: &[u64], count: usize, summary: &[u64]) -> Result<u64, Refusal>
     ensures { TotalPromise room.now count summary.now result }
 {
-    match judge_shape(terms::MOST_LINES, count, room.len(), summary.len()) {
-        ShapeAnswer::Refused(why) => TotalAnswer::Refused(why),
-        ShapeAnswer::Blocks(many) => TotalAnswer::Total(summary[many]),
-    }
+    let many = judge_shape(terms::MOST_LINES, count, room.len(), summary.len())?;
+    Ok(summary[many])
 }
 
 // The line of the whole, unsplit ledger that holds a cent, by the summary's figures as they stand.
-pub fn find(room: &[u64], count: usize, summary: &[u64], cent: Cent) -> FindAnswer
+#[tactic(auto, using(crate::proofs::Shapes::judged_shape), unfolding(crate::specs::Lookup::find_of, crate::specs::Lookup::find_in))]
+pub fn find(room: &[u64], count: usize, summary: &[u64], cent: Cent) -> Result<Item, Refusal>
     ensures { FindPromise room.now count summary.now cent.0 result }
 {
-    match judge_shape(terms::MOST_LINES, count, room.len(), summary.len()) {
-        ShapeAnswer::Refused(why) => FindAnswer::Refused(why),
-        ShapeAnswer::Blocks(many) => {
-            let sought = cent.0;
-            if sought >= summary[many] {
-                return FindAnswer::Refused(Refusal::LineNotThere(0));
-            }
-            blocks::find_block(&room[..count], &summary[..many], sought)
-        }
+    let many = judge_shape(terms::MOST_LINES, count, room.len(), summary.len())?;
+    if cent.0 >= summary[many] {
+        return Err(Refusal::LineNotThere(0));
     }
+    blocks::find_block(&room[..count], &summary[..many], cent.0)
 }
 
-// Whether the summary agrees with its ledger, or the first of its figures that is wrong.
-pub fn check(room: &[u64], count: usize, summary: &[u64]) -> CheckAnswer
+// The first figure of the summary that is wrong, if any: a block's, or the grand total, which counts as one more.
+#[tactic(auto, unfolding(crate::specs::Comparison::compared_of))]
+pub fn check(room: &[u64], count: usize, summary: &[u64]) -> Result<Option<u64>, Refusal>
     ensures { CheckPromise room.now count summary.now result }
 {
-    match judge_shape(terms::MOST_LINES, count, room.len(), summary.len()) {
-        ShapeAnswer::Refused(why) => CheckAnswer::Refused(why),
-        ShapeAnswer::Blocks(many) => {
-            let lines = &room[..count];
-            match ledger::judge_lines(lines) {
-                LedgerAnswer::Refused(why) => CheckAnswer::Refused(why),
-                LedgerAnswer::Total(total) => {
-                    CheckAnswer::Checked(blocks::compare(lines, many, total, summary))
-                }
-            }
-        }
-    }
+    let many = judge_shape(terms::MOST_LINES, count, room.len(), summary.len())?;
+    let lines = &room[..count];
+    let total = ledger::judge_lines(lines)?;
+    Ok(blocks::first_wrong(lines, many, total, summary))
 }

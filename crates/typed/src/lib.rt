@@ -15,13 +15,6 @@ const MOST_TEXT: usize = 500_000;
 // One byte more is read, so that a longer text is seen.
 pub const TEXT_ROOM: usize = 500_001;
 
-// How long the text is that was read; or nothing, when what is wrong has been said.
-#[derive(Clone, Copy)]
-pub enum Typed {
-    Text(usize),
-    Nothing,
-}
-
 // One line to standard error, which `err` is.
 pub fn say(err: &impl Print, words: &[u8]) -> io::Result<()> {
     err.write_all(words)
@@ -35,31 +28,31 @@ pub fn say_fault(err: &impl Print, fault: Fault, by: Notation) -> io::Result<()>
 }
 
 // Whether a text begins with a byte-order mark: that of UTF-8, or one of UTF-16.
-fn is_marked(first: u8, second: u8, third: u8) -> bool {
-    first == 239 && second == 187 && third == 191
-        || first == 255 && second == 254
-        || first == 254 && second == 255
+fn is_marked(text: &[u8]) -> bool {
+    text.starts_with(b"\xEF\xBB\xBF")
+        || text.starts_with(b"\xFF\xFE")
+        || text.starts_with(b"\xFE\xFF")
 }
 
-// The input to its end or one byte past the longest text; what is wrong is said to `err`.
+// The input to its end or one byte past the longest text, and how long the text is; or nothing, when what is wrong has been said to `err`.
 pub fn read_text<R: Read, E: Print>(
     input: &mut R,
     err: &E,
     text: &mut [u8; TEXT_ROOM],
-) -> io::Result<Typed>
+) -> io::Result<Option<usize>>
     ensures { IfOk result (λ typed. Within text.new typed) }
 {
     let length = streams::read_full(input, text)?;
     if length > MOST_TEXT {
         say(err, b"the text is longer than 500000 bytes\n")?;
-        return Ok(Typed::Nothing);
+        return Ok(None);
     }
-    if is_marked(text[0], text[1], text[2]) {
+    if is_marked(text) {
         say(
             err,
             b"the text begins with a byte-order mark: save it as UTF-8 without one\n",
         )?;
-        return Ok(Typed::Nothing);
+        return Ok(None);
     }
-    Ok(Typed::Text(length))
+    Ok(Some(length))
 }

@@ -1,43 +1,35 @@
 -- An outcome is said by one answer, so that each promise has one; and which refusals a change and an append give. Assumes nothing.
 use Prim.Native.Nat.{ℕ, ◌+◌, ◌/◌, ◌^◌}
-use mathlib.Core.Path.{◌≡◌, refl, sym, ◌∙◌}
+use Rattle.terms.specs.declared.Refusal.{Refusal}
+use Rattle.std.specs.Prelude.{Result}
+use mathlib.Core.Path.{◌≡◌, sym, ◌∙◌}
 use mathlib.Core.List.{List, [], ◌∷◌}
 use lib.Dec.{ltb}
 use lib.ListN.{length, get_or}
-use Rattle.terms.specs.Outcome.{Outcome, accepted, refused, after}
+use Rattle.terms.specs.Outcome.{accepted, refused, after}
 use Rattle.terms.specs.Numbers.{pick}
 use Rattle.terms.specs.Limits.{most_lines, most_value, most_total}
-use Rattle.terms.proofs.Answers.{Made, good, bad, one_answer}
+use Rattle.terms.proofs.Answers.{says_once}
 use Rattle.terms.proofs.Outcomes.{Gives, gives_after, gives_among}
 use Rattle.terms.proofs.Tests.{by_test}
 use Rattle.ledger.proofs.Laws.{line_numbers}
-use Rattle.totals.specs.declared.TotalAnswer.{TotalAnswer}
 use Rattle.totals.specs.Summary.{shape_of}
-use Rattle.totals.proofs.Answers.{one_total, shape_numbers, figure_numbers, shape_gives}
-use Rattle.upkeep.specs.declared.CountAnswer.{CountAnswer}
-use Rattle.upkeep.specs.declared.CountAnswer.TheVariants.{Count, Refused}
-use Rattle.upkeep.specs.Upkeep.{count_says, value_judged, figure_moved, new_figures, both_moved, changed_to, appended_to, change_of, most_before, append_of, ChangePromise, AppendPromise}
-
-count_made : (r : CountAnswer) → Made Count Refused r
-count_made (Count lines) = good lines
-count_made (Refused why) = bad why
-
-one_count : {o : Outcome ℕ} (r s : CountAnswer) → count_says r ≡ o → count_says s ≡ o → r ≡ s
-one_count = one_answer count_says Count Refused (λ a. refl) (λ why. refl) count_made
+use Rattle.totals.proofs.Answers.{shape_numbers, figure_numbers, shape_gives}
+use Rattle.upkeep.specs.Upkeep.{value_judged, figure_moved, new_figures, both_moved, changed_to, appended_to, change_of, most_before, append_of, ChangePromise, AppendPromise}
 
 -- room and summary as one
 abbrev pub Both : Type 0
 Both = List ℕ × List ℕ
 
-pub change_once : {room : List ℕ} {count : ℕ} {summary : List ℕ} {line value : ℕ} {r s : TotalAnswer} {b c : Both} →
+pub change_once : {room : List ℕ} {count : ℕ} {summary : List ℕ} {line value : ℕ} {r s : Result ℕ Refusal} {b c : Both} →
     ChangePromise room count summary line value r b.0 b.1 → ChangePromise room count summary line value s c.0 c.1 → (r ≡ s) × (b ≡ c)
 change_once {r = r} {s = s} p q =
-    (one_total r s p.answer q.answer, λ i. ((p.room_left ∙ sym q.room_left) i, (p.summary_left ∙ sym q.summary_left) i))
+    (says_once r s p.answer q.answer, λ i. ((p.room_left ∙ sym q.room_left) i, (p.summary_left ∙ sym q.summary_left) i))
 
-pub append_once : {room : List ℕ} {count : ℕ} {summary : List ℕ} {value : ℕ} {r s : CountAnswer} {b c : Both} →
+pub append_once : {room : List ℕ} {count : ℕ} {summary : List ℕ} {value : ℕ} {r s : Result ℕ Refusal} {b c : Both} →
     AppendPromise room count summary value r b.0 b.1 → AppendPromise room count summary value s c.0 c.1 → (r ≡ s) × (b ≡ c)
 append_once {r = r} {s = s} p q =
-    (one_count r s p.answer q.answer, λ i. ((p.room_left ∙ sym q.room_left) i, (p.summary_left ∙ sym q.summary_left) i))
+    (says_once r s p.answer q.answer, λ i. ((p.room_left ∙ sym q.room_left) i, (p.summary_left ∙ sym q.summary_left) i))
 
 -- the refusals that they give
 abbrev pub change_numbers : List ℕ

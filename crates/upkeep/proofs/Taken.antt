@@ -10,14 +10,11 @@ use Rattle.terms.specs.Outcome.{accepted}
 use Rattle.terms.specs.Numbers.{sum}
 use Rattle.terms.specs.Limits.{most_lines, most_value, most_total}
 use Rattle.terms.proofs.Sums.{one_of_sum}
-use Rattle.totals.specs.declared.ShapeAnswer.TheVariants.{Blocks}
-use Rattle.totals.specs.declared.TotalAnswer.TheVariants.{Total}
 use Rattle.totals.specs.Summary.{blocks, block_from, in_use, Agrees}
 use Rattle.totals.proofs.Shapes.{right_shape, block_within}
 use Rattle.totals.proofs.Loops.{block_small}
 use Rattle.totals.proofs.Agreeing.{sum_set}
 use Rattle.upkeep.specs.declared.NewFigures.{NewFigures}
-use Rattle.upkeep.specs.declared.FiguresAnswer.TheVariants.{Figures}
 use Rattle.upkeep.specs.Upkeep.{figure_moved, new_figures, both_moved, change_of, most_before, append_of}
 use Rattle.upkeep.proofs.Moves.{moved_to, both_told, value_fine, changed_moved, appended_moved}
 use Rattle.upkeep.proofs.Steps.{change_seen, append_seen}
@@ -41,8 +38,7 @@ moved_fine block figure old value low high = moved_to block figure old value (fi
 both_fine : (line value old many figure grand : ℕ) → old ≤ figure → figure ≤ grand → grand + value < 2 ^ 64 + old →
     accepted (new_figures (figure + value - old) (grand + value - old)) ≡ both_moved line value old many figure grand
 both_fine line value old many figure grand low part high =
-    both_told line value old many figure grand {one = Total (figure + value - old)} (moved_fine (line / 256) figure old value low (omega arith)) refl
-    {two = Total (grand + value - old)} (moved_fine many grand old value (omega arith) high) refl
+    both_told line value old many figure grand (figure + value - old) (grand + value - old) (moved_fine (line / 256) figure old value low (omega arith)) (moved_fine many grand old value (omega arith) high)
 
 module _ (room : List ℕ) (count : ℕ) (summary : List ℕ) (agrees : Agrees room count summary) where
   -- the figure of a line's block
@@ -71,11 +67,11 @@ module _ (room : List ℕ) (count : ℕ) (summary : List ℕ) (agrees : Agrees r
       let f = get_or summary (line / 256) 0 in
       let g = get_or summary n 0 in
       let within : line < length room = omega arith in
-      let shape = right_shape most_lines count (length room) (length summary) few inside n refl agrees.long in
+      let shape = right_shape most_lines count (length room) (length summary) few inside agrees.long in
       let both = both_fine line value old n f g (figure_low line used within) (figure_high line within) (omega (arith, agrees.grand)) in
       let judged = value_fine line value old g small (omega (arith, agrees.grand)) in
       let new = new_figures (f + value - old) (g + value - old) in
-      (new, sym (change_seen room count summary {shape = Blocks n} shape refl line used value {figures = Figures new} (changed_moved line value old n f g {judged = Total value} judged refl both) refl))
+      (new, sym (change_seen room count n summary line value shape used (changed_moved line value old n f g judged both)))
 
   -- and so is an append where there is room
   pub append_taken : count < most_lines → count < length room → (value : ℕ) → value ≤ most_value → sum (in_use room count) + value ≤ most_total →
@@ -84,8 +80,8 @@ module _ (room : List ℕ) (count : ℕ) (summary : List ℕ) (agrees : Agrees r
       let n = blocks (length room) in
       let f = get_or summary (count / 256) 0 in
       let g = get_or summary n 0 in
-      let shape = right_shape most_before count (length room) (length summary) (omega arith) (omega arith) n refl agrees.long in
+      let shape = right_shape most_before count (length room) (length summary) (omega arith) (omega arith) agrees.long in
       let both = both_fine count value 0 n f g (omega arith) (figure_high count inside) (omega (arith, agrees.grand)) in
       let judged = value_fine count value 0 g small (omega (arith, agrees.grand)) in
       let new = new_figures (f + value - 0) (g + value - 0) in
-      (new, sym (append_seen room count summary {shape = Blocks n} shape refl value {figures = Figures new} (appended_moved count (length room) value n f g {judged = Total value} judged refl inside both) refl))
+      (new, sym (append_seen room count n summary shape value (appended_moved count (length room) value n f g judged inside both)))

@@ -1,20 +1,11 @@
 -- A line in use that is changed, and one that is appended: the refusals, the new figures, and what is written. Definitions: nothing is assumed.
-use Rattle.std.specs.Prelude.{ℕ, ◌+◌, ◌-◌, ◌/◌, ◌^◌, ◌≡◌, List, ltb, length, get_or, set}
-use Rattle.terms.specs.Outcome.{Outcome, accepted, refused, refused_by, after, left}
+use Rattle.std.specs.Prelude.{ℕ, ◌+◌, ◌-◌, ◌/◌, ◌^◌, ◌≡◌, List, ltb, length, get_or, set, Result}
+use Rattle.terms.specs.declared.Refusal.{Refusal}
+use Rattle.terms.specs.Outcome.{Outcome, accepted, refused, after, left, says}
 use Rattle.terms.specs.Numbers.{pick}
 use Rattle.terms.specs.Limits.{most_lines, most_value, most_total}
-use Rattle.totals.specs.declared.TotalAnswer.{TotalAnswer}
-use Rattle.totals.specs.Summary.{total_says, per_block, blocks, shape_of}
-use Rattle.upkeep.specs.declared.{CountAnswer.CountAnswer, NewFigures.NewFigures, FiguresAnswer.FiguresAnswer}
-
--- what the answers say: the new count; the new figures
-abbrev pub count_says : CountAnswer → Outcome ℕ
-count_says (CountAnswer.Count lines) = accepted lines
-count_says (CountAnswer.Refused why) = refused_by why
-
-abbrev pub figures_says : FiguresAnswer → Outcome NewFigures
-figures_says (FiguresAnswer.Figures new) = accepted new
-figures_says (FiguresAnswer.Refused why) = refused_by why
+use Rattle.totals.specs.Summary.{per_block, blocks, shape_of}
+use Rattle.upkeep.specs.declared.{NewFigures.NewFigures}
 
 -- 3 where the value is too large, 4 where the grand total is, with the old value out and the new one in: one that would fall below 0 is not
 unfoldable pub value_judged : ℕ → ℕ → ℕ → ℕ → Outcome ℕ
@@ -71,13 +62,13 @@ unfoldable pub figures_set : ℕ → List ℕ → ℕ → NewFigures → List �
 figures_set room summary line new = set (set summary (line / per_block) new.figure) (blocks room) new.grand
 
 -- what `change` promises: the new grand total, and room and summary, which a refusal leaves
-pub record ChangePromise (room : List ℕ) (count : ℕ) (summary : List ℕ) (line value : ℕ) (r : TotalAnswer) (room' summary' : List ℕ) : Type 0 where
-  pub answer : total_says r ≡ after (λ new. accepted new.grand) (change_of room count summary line value)
+pub record ChangePromise (room : List ℕ) (count : ℕ) (summary : List ℕ) (line value : ℕ) (r : Result ℕ Refusal) (room' summary' : List ℕ) : Type 0 where
+  pub answer : says r ≡ after (λ new. accepted new.grand) (change_of room count summary line value)
   pub room_left : room' ≡ left (line_set room line value) room (change_of room count summary line value)
   pub summary_left : summary' ≡ left (figures_set (length room) summary line) summary (change_of room count summary line value)
 
 -- what `append` promises: the new count, and room and summary, which a refusal leaves
-pub record AppendPromise (room : List ℕ) (count : ℕ) (summary : List ℕ) (value : ℕ) (r : CountAnswer) (room' summary' : List ℕ) : Type 0 where
-  pub answer : count_says r ≡ after (λ new. accepted (count + 1)) (append_of room count summary value)
+pub record AppendPromise (room : List ℕ) (count : ℕ) (summary : List ℕ) (value : ℕ) (r : Result ℕ Refusal) (room' summary' : List ℕ) : Type 0 where
+  pub answer : says r ≡ after (λ new. accepted (count + 1)) (append_of room count summary value)
   pub room_left : room' ≡ left (line_set room count value) room (append_of room count summary value)
   pub summary_left : summary' ≡ left (figures_set (length room) summary count) summary (append_of room count summary value)

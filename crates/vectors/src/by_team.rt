@@ -2,22 +2,11 @@
 // and the errors found after them, one finding its line and the pattern of its error as numbers.
 use answers::Answer;
 use feed::fields::Case;
-use feed::{fields, lines, rooms};
+use feed::lines::Digests;
+use feed::operations::Operation;
+use feed::{lines, rooms};
 use parts::{front_to_fill, part};
 use std::io;
-
-fn post_all(
-    case: Case,
-    ledger: &[u64],
-    marks: &[u8],
-    errors: &mut [i64],
-    words: &[u64],
-    amounts: &mut [i64],
-) -> Answer {
-    let posted = fields::lines(words, case.room, case.first);
-    let found = fields::found(words, case.room, case.first, amounts);
-    calls::team_post_all(case.level, ledger, marks, errors, posted, found)
-}
 
 fn answer(
     case: Case,
@@ -27,19 +16,17 @@ fn answer(
     words: &[u64],
     amounts: &mut [i64],
 ) -> Answer {
-    let operation = case.operation;
-    match operation {
-        18 => calls::team_split(case.level, ledger, case.first, marks),
-        19 => calls::team_draw(case.level, ledger, case.first, case.second, marks),
-        20 => calls::team_post(
-            case.level,
-            ledger,
-            marks,
-            errors,
-            case.first,
-            fields::error(case.second),
-        ),
-        _ => post_all(case, ledger, marks, errors, words, amounts),
+    let team = case.level;
+    match case.operation {
+        Operation::TeamSplit => calls::team_split(team, ledger, case.first, marks),
+        Operation::TeamDraw => calls::team_draw(team, ledger, case.first, case.second, marks),
+        Operation::TeamPost => {
+            calls::team_post(team, ledger, marks, errors, case.first, case.error())
+        }
+        _ => {
+            let found = case.found(words, amounts);
+            calls::team_post_all(team, ledger, marks, errors, case.lines(words), found)
+        }
     }
 }
 
@@ -55,30 +42,21 @@ fn call(
 ) -> io::Result<()> {
     rooms::fill_from(words, room);
     let answer = answer(case, ledger, room, errors, words, amounts);
-    lines::tell(
-        rt,
-        number,
-        case.operation,
-        answer,
-        room,
-        ledger,
-        errors,
-        words,
-    )
+    let digests = Digests::of(room, ledger, errors, words);
+    lines::tell(rt, number, case.operation, answer, digests)
 }
 
 pub fn run(
     rt: &impl Print,
     number: u64,
-    input: &[u8],
+    case: Case,
     numbers: &mut [u64],
     errors: &mut [i64],
     amounts: &mut [i64],
     room: &mut [u8],
 ) -> io::Result<()> {
-    let errors = fields::errors(input, numbers, errors);
-    let lists = fields::lay(input, numbers);
-    let case = fields::numbers(input);
+    let errors = case.errors.signed(numbers, errors);
+    let lists = case.lay(numbers);
     call(
         rt,
         number,

@@ -14,6 +14,8 @@ mod summaries; // summaries.rt: cases of the totals beside the ledger
 
 ghost use Rattle.std.specs.Prelude.{◌≡◌, length};
 
+use feed::fields::Case;
+use feed::operations::Operation;
 use std::io;
 
 // Room for the lists of a case: a ledger of 100,000 lines, and 5,000 words.
@@ -41,41 +43,33 @@ fn bytes() -> [u8; 100_000]
 fn run(
     rt: &impl Print,
     number: u64,
-    case: &[u8],
+    case: Case,
     numbers: &mut [u64],
     errors: &mut [i64],
     amounts: &mut [i64],
     room: &mut [u8],
 ) -> io::Result<()> {
-    match feed::input::byte_at(case, 0) {
-        7 => reads::run(rt, number, case, room),
-        9 => projected::run(rt, number, case, numbers, errors, amounts),
-        10..=12 => by_strata::run(rt, number, case, numbers, errors, room),
-        13 => seasons::run(rt, number, case, numbers),
-        16 | 17 => postings::run(rt, number, case, numbers, errors, amounts, room),
-        18..=21 => by_team::run(rt, number, case, numbers, errors, amounts, room),
-        24 => salvages::run(rt, number, case, room),
-        25..=30 => summaries::run(rt, number, case, numbers),
+    match case.operation {
+        Operation::Read => reads::run(rt, number, case, room),
+        Operation::Lines => projected::run(rt, number, case, numbers, errors, amounts),
+        Operation::StrataPlan | Operation::StrataDraw | Operation::StrataProject => {
+            by_strata::run(rt, number, case, numbers, errors, room)
+        }
+        Operation::Tally => seasons::run(rt, number, case, numbers),
+        Operation::Post | Operation::PostAll => {
+            postings::run(rt, number, case, numbers, errors, amounts, room)
+        }
+        Operation::TeamSplit | Operation::TeamDraw | Operation::TeamPost | Operation::TeamPostAll =>
+            { by_team::run(rt, number, case, numbers, errors, amounts, room) }
+        Operation::Salvage => salvages::run(rt, number, case, room),
+        Operation::TotalsBuild
+        | Operation::TotalsTotal
+        | Operation::TotalsFind
+        | Operation::TotalsChange
+        | Operation::TotalsAppend
+        | Operation::TotalsCheck => summaries::run(rt, number, case, numbers),
         _ => method::run(rt, number, case, numbers, errors, room),
     }
-}
-
-// The next case, where there is one.
-fn run_next(
-    rt: &HostRuntime,
-    number: u64,
-    input: &mut [u8],
-    numbers: &mut [u64],
-    errors: &mut [i64],
-    amounts: &mut [i64],
-    room: &mut [u8],
-) -> io::Result<bool> {
-    let case = feed::cases::next(rt, number, input)?;
-    if case.len() == 0 {
-        return Ok(false);
-    }
-    run(rt, number, case, numbers, errors, amounts, room)?;
-    Ok(true)
 }
 
 // Case after case. The last number of 64 bits is that of no case.
@@ -85,19 +79,20 @@ fn main(rt: HostRuntime) -> io::Result<()> {
     let mut errors = signed_numbers();
     let mut amounts = signed_numbers();
     let mut room = bytes();
-    let mut number: u64 = 0;
-    while number < 0xFFFF_FFFF_FFFF_FFFF
-        && run_next(
+    for number in 0..0xFFFF_FFFF_FFFF_FFFF {
+        let case = feed::cases::next(&rt, number, &mut input)?;
+        if case.is_empty() {
+            break;
+        }
+        run(
             &rt,
             number,
-            &mut input,
+            Case::of(case),
             &mut numbers,
             &mut errors,
             &mut amounts,
             &mut room,
-        )?
-    {
-        number += 1;
+        )?;
     }
     Ok(())
 }

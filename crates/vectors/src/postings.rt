@@ -2,7 +2,9 @@
 // found. One finding has its line as the first number and the pattern of its error as the second.
 use answers::Answer;
 use feed::fields::Case;
-use feed::{fields, lines, rooms};
+use feed::lines::Digests;
+use feed::operations::Operation;
+use feed::{lines, rooms};
 use parts::{front_to_fill, part};
 use std::io;
 
@@ -14,19 +16,13 @@ fn answer(
     words: &[u64],
     amounts: &mut [i64],
 ) -> Answer {
-    let operation = case.operation;
-    if operation == 16 {
-        return calls::post(
-            ledger,
-            marks,
-            errors,
-            case.first,
-            fields::error(case.second),
-        );
+    match case.operation {
+        Operation::Post => calls::post(ledger, marks, errors, case.first, case.error()),
+        _ => {
+            let found = case.found(words, amounts);
+            calls::post_all(ledger, marks, errors, case.lines(words), found)
+        }
     }
-    let posted = fields::lines(words, case.room, case.first);
-    let found = fields::found(words, case.room, case.first, amounts);
-    calls::post_all(ledger, marks, errors, posted, found)
 }
 
 fn call(
@@ -41,30 +37,21 @@ fn call(
 ) -> io::Result<()> {
     rooms::fill_from(words, room);
     let answer = answer(case, ledger, room, errors, words, amounts);
-    lines::tell(
-        rt,
-        number,
-        case.operation,
-        answer,
-        room,
-        ledger,
-        errors,
-        words,
-    )
+    let digests = Digests::of(room, ledger, errors, words);
+    lines::tell(rt, number, case.operation, answer, digests)
 }
 
 pub fn run(
     rt: &impl Print,
     number: u64,
-    input: &[u8],
+    case: Case,
     numbers: &mut [u64],
     errors: &mut [i64],
     amounts: &mut [i64],
     room: &mut [u8],
 ) -> io::Result<()> {
-    let errors = fields::errors(input, numbers, errors);
-    let lists = fields::lay(input, numbers);
-    let case = fields::numbers(input);
+    let errors = case.errors.signed(numbers, errors);
+    let lists = case.lay(numbers);
     call(
         rt,
         number,

@@ -1,6 +1,8 @@
 // A case of the projected lines: the amounts are the list in the place of the words, lent in a buffer of their own.
 use feed::fields::Case;
-use feed::{fields, lines};
+use feed::lines;
+use feed::lines::Digests;
+use feed::rooms::digest;
 use parts::part;
 use std::io;
 
@@ -13,26 +15,23 @@ fn call(
     amounts: &mut [i64],
 ) -> io::Result<()> {
     let answer = calls::project_lines(ledger, case.first, case.second, errors, amounts);
-    lines::tell_lines(rt, number, answer, ledger, errors, amounts)
+    let digests = Digests {
+        words: digest(amounts),
+        ..Digests::of(&[], ledger, errors, &[])
+    };
+    lines::tell(rt, number, case.operation, answer, digests)
 }
 
 pub fn run(
     rt: &impl Print,
     number: u64,
-    input: &[u8],
+    case: Case,
     numbers: &mut [u64],
     errors: &mut [i64],
     amounts: &mut [i64],
 ) -> io::Result<()> {
-    let errors = fields::errors(input, numbers, errors);
-    let amounts = fields::amounts(input, numbers, amounts);
-    let lines = fields::lay_ledger(input, numbers);
-    call(
-        rt,
-        number,
-        fields::numbers(input),
-        part(numbers, 0, lines),
-        errors,
-        amounts,
-    )
+    let errors = case.errors.signed(numbers, errors);
+    let amounts = case.words.signed(numbers, amounts);
+    let lines = case.ledger.lay(numbers, 0);
+    call(rt, number, case, part(numbers, 0, lines), errors, amounts)
 }

@@ -14,20 +14,16 @@ use Rattle.workfile.specs.Content.{error_kind}
 use Rattle.workfile.specs.Decode.{record_of, record_at}
 use Rattle.workfile.specs.declared.FileRecord.TheVariants.{Word, Value, ErrorOf, End, Nothing}
 
-of_four : (f : List ℕ) (at : ℕ) → little_endian 4 (drop at f) ≡ get_or f at 0 + 0x100 * get_or f (at + 1) 0 + 0x10000 * get_or f (at + 2) 0 + 0x1000000 * get_or f (at + 3) 0
+pub of_four : (f : List ℕ) (at : ℕ) → little_endian 4 (drop at f) ≡ get_or f at 0 + 0x100 * get_or f (at + 1) 0 + 0x10000 * get_or f (at + 2) 0 + 0x1000000 * get_or f (at + 3) 0
 unfolding little_endian
 of_four f at = simp (drop-drop, get_or-drop, add_assoc, add-zero) (omega arith)
 
-of_eight : (f : List ℕ) (at : ℕ) → little_endian 8 (drop at f) ≡ little_endian 4 (drop at f) + 0x100000000 * little_endian 4 (drop (at + 4) f)
+pub of_eight : (f : List ℕ) (at : ℕ)
+    → little_endian 8 (drop at f)
+    ≡ get_or f at 0 + 0x100 * get_or f (at + 1) 0 + 0x10000 * get_or f (at + 2) 0 + 0x1000000 * get_or f (at + 3) 0
+    + 0x100000000 * get_or f (at + 4) 0 + 0x10000000000 * get_or f (at + 5) 0 + 0x1000000000000 * get_or f (at + 6) 0 + 0x100000000000000 * get_or f (at + 7) 0
 unfolding little_endian
-of_eight f at = simp (drop-drop, add_assoc) (omega arith)
-
-pub four_bytes : (f : List ℕ) (at : ℕ) {a b c d : ℕ} → a ≡ get_or f at 0 → b ≡ get_or f (at + 1) 0 → c ≡ get_or f (at + 2) 0 → d ≡ get_or f (at + 3) 0
-    → a + 0x100 * b + 0x10000 * c + 0x1000000 * d ≡ little_endian 4 (drop at f)
-four_bytes f at p q r s = omega (arith, of_four f at)
-
-pub eight_bytes : (f : List ℕ) (at : ℕ) {low high : ℕ} → low ≡ little_endian 4 (drop at f) → high ≡ little_endian 4 (drop (at + 4) f) → low + 0x100000000 * high ≡ little_endian 8 (drop at f)
-eight_bytes f at p q = omega (arith, of_eight f at)
+of_eight f at = simp (drop-drop, get_or-drop, add_assoc, add-zero) (omega arith)
 
 either_way : {A : Type 0} (b : Bool) (x : A) → pick b x x ≡ x
 either_way true x = refl

@@ -1,5 +1,6 @@
 -- Where a file was read: what the buffers hold, and how long it is. Assumes nothing.
 use Prim.Native.Nat.{ℕ, zero, suc, ◌≤◌}
+use Rattle.std.specs.Prelude.{Result, Ok, Err}
 use native.Mathlib.Omega.{arith}
 use mathlib.Core.Path.{◌≡◌, sym, ap, ◌∙◌}
 use mathlib.Core.List.{List, [], ◌∷◌}
@@ -7,14 +8,12 @@ use lib.ListN.{length, take, replicate}
 use lib.IntN.{ℤ, pos}
 use Rattle.terms.specs.declared.Refusal.{Refusal}
 use Rattle.terms.specs.Refusals.{number, place}
-use Rattle.terms.specs.Outcome.{accepted, refused}
+use Rattle.terms.specs.Outcome.{accepted, refused, says}
 use Rattle.terms.proofs.Outcomes.{refused_first}
 use Rattle.workfile.specs.Content.{most_words, most_file_lines}
 use Rattle.workfile.specs.Decode.{decode}
-use Rattle.workfile.specs.Promises.{read_says, counted, counts_of, Rooms, ReadPromise}
+use Rattle.workfile.specs.Promises.{counted, counts_of, Rooms, ReadPromise}
 use Rattle.workfile.specs.declared.Contents.{Contents}
-use Rattle.workfile.specs.declared.ReadAnswer.{ReadAnswer}
-use Rattle.workfile.specs.declared.ReadAnswer.TheVariants.{Read, Refused}
 use Rattle.workfile.proofs.OneFile.{read_counts}
 use Rattle.workfile.proofs.Promises.{roomy, held_by, held}
 
@@ -28,29 +27,29 @@ pub empty_rooms : Rooms (replicate most_words 0) (replicate most_file_lines 0) (
 empty_rooms = record { words = omega arith; values = omega arith; errors = omega arith }
 
 -- with room for every legal file the answer is what the file decides
-decoded : {file w v w' v' : List ℕ} {e e' : List ℤ} {r : ReadAnswer} → Rooms w v e → ReadPromise file w v e r w' v' e' → read_says r ≡ counts_of (decode file)
+decoded : {file w v w' v' : List ℕ} {e e' : List ℤ} {r : Result Contents Refusal} → Rooms w v e → ReadPromise file w v e r w' v' e' → says r ≡ counts_of (decode file)
 decoded {file} {w} {v} {e} rooms p = p.answer ∙ ap counts_of (roomy file w v e rooms)
 
-pub read_refused : {file w v w' v' : List ℕ} {e e' : List ℤ} {r : ReadAnswer} → Rooms w v e → ReadPromise file w v e r w' v' e' → (why : Refusal) → r ≡ Refused why →
+pub read_refused : {file w v w' v' : List ℕ} {e e' : List ℤ} {r : Result Contents Refusal} → Rooms w v e → ReadPromise file w v e r w' v' e' → (why : Refusal) → r ≡ Err why →
     decode file ≡ refused (number why) (place why)
-read_refused {file} rooms p why is = refused_first counted (decode file) (sym (ap read_says is) ∙ decoded rooms p)
+read_refused {file} rooms p why is = refused_first counted (decode file) (sym (ap says is) ∙ decoded rooms p)
 
 -- where a file was read: the buffers and the answer
 pub record AtRead (file : List ℕ) (k : Contents) (words' values' : List ℕ) (errors' : List ℤ) : Type 0 where
   pub words : List ℕ
   pub values : List ℕ
   pub errors : List ℤ
-  pub answer : ReadAnswer
+  pub answer : (Result Contents Refusal)
   pub rooms : Rooms words values errors
   pub promise : ReadPromise file words values errors answer words' values' errors'
-  pub told : answer ≡ Read k
+  pub told : answer ≡ Ok k
 
 module _ {file : List ℕ} {k : Contents} {w v : List ℕ} {e : List ℤ} (at : AtRead file k w v e) where
   pub decodes : decode file ≡ accepted (held_by k w v e)
-  decodes = held k at.promise (ap read_says at.told)
+  decodes = held k at.promise (ap says at.told)
 
   counts_are : counted (held_by k w v e) ≡ k
-  counts_are = let z : accepted (counted (held_by k w v e)) ≡ accepted k = sym (ap counts_of decodes) ∙ sym (decoded at.rooms at.promise) ∙ ap read_says at.told in cc
+  counts_are = let z : accepted (counted (held_by k w v e)) ≡ accepted k = sym (ap counts_of decodes) ∙ sym (decoded at.rooms at.promise) ∙ ap says at.told in cc
 
   -- as many entries as the answer counts were read, and the rooms have so many
   pub words_long : k.words ≡ length (take k.words w)

@@ -1,6 +1,8 @@
 -- What follows from the promises: they leave no freedom, and the theorems of the file hold of the reader's and the writer's results.
 -- Assumes nothing.
 use Prim.Native.Nat.{ℕ, ◌<◌, ◌≤◌}
+use Rattle.terms.specs.declared.Refusal.{Refusal}
+use Rattle.std.specs.Prelude.{Result}
 use mathlib.Core.Path.{◌≡◌, refl, ap, sym, ◌∙◌}
 use mathlib.Core.List.{List}
 use lib.Dec.{eqb, ltb}
@@ -8,49 +10,30 @@ use lib.IntN.{ℤ}
 use borrow.Author.Tests.{eqb-true, ltb-true, leb-true, lt-ltb, le-ltb, le-leb, lt-leb, eq-eqb, ne_eqb}
 use lib.ListN.{length, take, drop}
 use lib.Seq.{take_at}
-use Rattle.terms.specs.Outcome.{Outcome, accepted, refused, after, left}
+use Rattle.terms.specs.Outcome.{Outcome, accepted, refused, after, left, says}
 use Rattle.terms.specs.Numbers.{pick, sum}
-use Rattle.terms.proofs.Answers.{Made, good, bad, one_answer}
+use Rattle.terms.proofs.Answers.{says_once}
 use Rattle.terms.proofs.Outcomes.{never, after_accepted}
 use Rattle.terms.proofs.Tests.{by_test}
 use Rattle.workfile.specs.Numbers.{Bytes}
 use Rattle.workfile.specs.Content.{Content, most_words, most_file_lines, sum_bound, encode, Counts}
 use Rattle.workfile.specs.Decode.{decode}
-use Rattle.workfile.specs.Promises.{over, read_says, counted, counts_of, with_room, read_of, Rooms, ReadPromise, write_says, has_file, write_of, plan_with, content_with, WritePromise}
+use Rattle.workfile.specs.Promises.{over, counted, counts_of, with_room, read_of, Rooms, ReadPromise, has_file, write_of, plan_with, content_with, WritePromise}
 use Rattle.workfile.specs.declared.Plan.{Plan}
 use Rattle.workfile.specs.declared.Contents.{Contents}
-use Rattle.workfile.specs.declared.ReadAnswer.{ReadAnswer}
-use Rattle.workfile.specs.declared.ReadAnswer.TheVariants as read
-use Rattle.workfile.specs.declared.WriteAnswer.{WriteAnswer}
-use Rattle.workfile.specs.declared.WriteAnswer.TheVariants as write
 use Rattle.workfile.proofs.Rules.{both}
 use Rattle.workfile.proofs.OneFile.{one_file, no_second_file, read_counts}
 use Rattle.workfile.proofs.RoundTrip.{Fit, round_trip}
 use Rattle.workfile.proofs.Longest.{first_decide}
 
-read_made : (r : ReadAnswer) → Made read.Read read.Refused r
-read_made (read.Read a) = good a
-read_made (read.Refused why) = bad why
-
-write_made : (r : WriteAnswer) → Made write.Written write.Refused r
-write_made (write.Written a) = good a
-write_made (write.Refused why) = bad why
-
--- an answer is what it says
-pub read_answer : {o : Outcome Contents} (r s : ReadAnswer) → read_says r ≡ o → read_says s ≡ o → r ≡ s
-read_answer = one_answer read_says read.Read read.Refused (λ a. refl) (λ why. refl) read_made
-
-pub write_answer : {o : Outcome ℕ} (r s : WriteAnswer) → write_says r ≡ o → write_says s ≡ o → r ≡ s
-write_answer = one_answer write_says write.Written write.Refused (λ a. refl) (λ why. refl) write_made
-
 -- any two results that meet a promise agree
-pub read_once : {f w v w₁ v₁ w₂ v₂ : List ℕ} {e e₁ e₂ : List ℤ} {r₁ r₂ : ReadAnswer} → ReadPromise f w v e r₁ w₁ v₁ e₁ → ReadPromise f w v e r₂ w₂ v₂ e₂
+pub read_once : {f w v w₁ v₁ w₂ v₂ : List ℕ} {e e₁ e₂ : List ℤ} {r₁ r₂ : Result Contents Refusal} → ReadPromise f w v e r₁ w₁ v₁ e₁ → ReadPromise f w v e r₂ w₂ v₂ e₂
     → (r₁ ≡ r₂) × (w₁ ≡ w₂) × (v₁ ≡ v₂) × (e₁ ≡ e₂)
 read_once {r₁} {r₂} p q =
-    (read_answer r₁ r₂ p.answer q.answer, p.words_left ∙ sym q.words_left, p.values_left ∙ sym q.values_left, p.errors_left ∙ sym q.errors_left)
+    (says_once r₁ r₂ p.answer q.answer, p.words_left ∙ sym q.words_left, p.values_left ∙ sym q.values_left, p.errors_left ∙ sym q.errors_left)
 
-pub write_once : {plan : Plan} {w v f f₁ f₂ : List ℕ} {e : List ℤ} {r₁ r₂ : WriteAnswer} → WritePromise plan w v e f r₁ f₁ → WritePromise plan w v e f r₂ f₂ → (r₁ ≡ r₂) × (f₁ ≡ f₂)
-write_once {r₁} {r₂} p q = (write_answer r₁ r₂ p.answer q.answer, p.file_left ∙ sym q.file_left)
+pub write_once : {plan : Plan} {w v f f₁ f₂ : List ℕ} {e : List ℤ} {r₁ r₂ : Result ℕ Refusal} → WritePromise plan w v e f r₁ f₁ → WritePromise plan w v e f r₂ f₂ → (r₁ ≡ r₂) × (f₁ ≡ f₂)
+write_once {r₁} {r₂} p q = (says_once r₁ r₂ p.answer q.answer, p.file_left ∙ sym q.file_left)
 
 -- the room comes first
 pub short_words : (f : List ℕ) (w v e : ℕ) → w < most_words → read_of f w v e ≡ refused 18 most_words
@@ -155,7 +138,7 @@ front_of : {A : Type 0} (new old : List A) (n : ℕ) → length new ≡ n → ta
 front_of new old n e = take_at new (drop (length new) old) n e
 
 -- an accepted read leaves the file's content in the buffers
-pub held : {f w v w' v' : List ℕ} {e e' : List ℤ} {r : ReadAnswer} (k : Contents) → ReadPromise f w v e r w' v' e' → read_says r ≡ accepted k → decode f ≡ accepted (held_by k w' v' e')
+pub held : {f w v w' v' : List ℕ} {e e' : List ℤ} {r : Result Contents Refusal} (k : Contents) → ReadPromise f w v e r w' v' e' → says r ≡ accepted k → decode f ≡ accepted (held_by k w' v' e')
 held {f} {w} {v} {w'} {v'} {e} {e'} k p a =
     let o = read_of f (length w) (length v) (length e) in
     let q = after_accepted (λ c. accepted (counted c)) o k (sym p.answer ∙ a) in
@@ -174,10 +157,10 @@ held {f} {w} {v} {w'} {v'} {e} {e'} k p a =
     decoded ∙ ap accepted same
 
 -- a file that the writer wrote, read with room enough, gives the answer and the buffers of what was handed to the writer
-pub written_is_read : {plan : Plan} {ws vs file file' w v w' v' : List ℕ} {es e e' : List ℤ} {r : WriteAnswer} {q : ReadAnswer} (n : ℕ)
-    → Fit (content_with plan ws vs es) → WritePromise plan ws vs es file r file' → write_says r ≡ accepted n
+pub written_is_read : {plan : Plan} {ws vs file file' w v w' v' : List ℕ} {es e e' : List ℤ} {r : Result ℕ Refusal} {q : Result Contents Refusal} (n : ℕ)
+    → Fit (content_with plan ws vs es) → WritePromise plan ws vs es file r file' → says r ≡ accepted n
     → Rooms w v e → ReadPromise (take n file') w v e q w' v' e'
-    → (read_says q ≡ accepted (counted (content_with plan ws vs es))) × (w' ≡ over ws w) × (v' ≡ over vs v) × (e' ≡ over es e)
+    → (says q ≡ accepted (counted (content_with plan ws vs es))) × (w' ≡ over ws w) × (v' ≡ over vs v) × (e' ≡ over es e)
 written_is_read {plan} {ws} {vs} {file} {file'} {w} {v} {es} {e} n f p a m q =
     let c = content_with plan ws vs es in
     let x = after_accepted (λ bs. accepted (length bs)) (write_of c (length file)) n (sym p.answer ∙ a) in
@@ -193,17 +176,17 @@ written_is_read {plan} {ws} {vs} {file} {file'} {w} {v} {es} {e} n f p a m q =
     )
 
 -- what was read of a legal file, handed to the writer with room enough, is written as that file
-pub read_is_written : {f w v w' v' file file' : List ℕ} {e e' : List ℤ} {r : ReadAnswer} {q : WriteAnswer} (k : Contents)
-    → Bytes f → ReadPromise f w v e r w' v' e' → read_says r ≡ accepted k → length f ≤ length file
+pub read_is_written : {f w v w' v' file file' : List ℕ} {e e' : List ℤ} {r : Result Contents Refusal} {q : Result ℕ Refusal} (k : Contents)
+    → Bytes f → ReadPromise f w v e r w' v' e' → says r ≡ accepted k → length f ≤ length file
     → WritePromise (plan_with k.level k.te k.ae) (take k.words w') (take k.lines v') (take k.lines e') file q file'
-    → (write_says q ≡ accepted (length f)) × (file' ≡ over f file)
+    → (says q ≡ accepted (length f)) × (file' ≡ over f file)
 read_is_written {f} {w'} {v'} {file} {e'} k b p a room q =
     let o = read_writes f (held_by k w' v' e') (length file) b (held k p a) room in
     (q.answer ∙ ap (after (λ bs. accepted (length bs))) o, q.file_left ∙ ap (left (λ bs. over bs file) file) o)
 
 -- two files that read to the same answer and the same entries are the same bytes
-pub read_of_one_file : {f g w v w₁ v₁ w₂ v₂ : List ℕ} {e e₁ e₂ : List ℤ} {r q : ReadAnswer} (k : Contents) → Bytes f → Bytes g
-    → ReadPromise f w v e r w₁ v₁ e₁ → ReadPromise g w v e q w₂ v₂ e₂ → read_says r ≡ accepted k → read_says q ≡ accepted k
+pub read_of_one_file : {f g w v w₁ v₁ w₂ v₂ : List ℕ} {e e₁ e₂ : List ℤ} {r q : Result Contents Refusal} (k : Contents) → Bytes f → Bytes g
+    → ReadPromise f w v e r w₁ v₁ e₁ → ReadPromise g w v e q w₂ v₂ e₂ → says r ≡ accepted k → says q ≡ accepted k
     → held_by k w₁ v₁ e₁ ≡ held_by k w₂ v₂ e₂ → f ≡ g
 read_of_one_file {f} {g} {w₁} {v₁} {e₁} k bf bg p q a c same =
     no_second_file f g (held_by k w₁ v₁ e₁) bf bg (held k p a) (held k q c ∙ ap accepted (sym same))
@@ -213,7 +196,7 @@ first_read : (f : List ℕ) (w v e : ℕ) → read_of f w v e ≡ read_of (take 
 unfolding read_of
 first_read f w v e = ap (with_room w v e) (first_decide f)
 
-pub first_bytes : {f w v w' v' : List ℕ} {e e' : List ℤ} {r : ReadAnswer} → ReadPromise f w v e r w' v' e' → ReadPromise (take 45664 f) w v e r w' v' e'
+pub first_bytes : {f w v w' v' : List ℕ} {e e' : List ℤ} {r : Result Contents Refusal} → ReadPromise f w v e r w' v' e' → ReadPromise (take 45664 f) w v e r w' v' e'
 first_bytes {f} {w} {v} {e} p =
     let o = first_read f (length w) (length v) (length e) in
     record {

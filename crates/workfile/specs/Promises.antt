@@ -1,19 +1,15 @@
 -- What the reader and the writer promise: the answer, and every lent buffer afterwards. Definitions: nothing is assumed.
-use Rattle.std.specs.Prelude.{ℕ, ◌≤◌, ◌≡◌, Bool, ◌&&◌, List, ◌++◌, leb, ltb, eqb, ℤ, length, drop}
-use Rattle.terms.specs.Outcome.{Outcome, accepted, refused, refused_by, after, left}
+use Rattle.std.specs.Prelude.{ℕ, ◌≤◌, ◌≡◌, Bool, ◌&&◌, List, ◌++◌, leb, ltb, eqb, ℤ, length, drop, Result}
+use Rattle.terms.specs.declared.Refusal.{Refusal}
+use Rattle.terms.specs.Outcome.{Outcome, accepted, refused, after, left, says}
 use Rattle.terms.specs.Numbers.{pick, sum}
 use Rattle.workfile.specs.Content.{Content, most_words, most_file_lines, sum_bound, encode}
 use Rattle.workfile.specs.Decode.{decode}
-use Rattle.workfile.specs.declared.{Plan.Plan, Contents.Contents, ReadAnswer.ReadAnswer, WriteAnswer.WriteAnswer}
+use Rattle.workfile.specs.declared.{Plan.Plan, Contents.Contents}
 
 -- entries past the new ones stay untouched
 abbrev pub over : {A : Type 0} → List A → List A → List A
 over new old = new ++ drop (length new) old
-
--- what the reader's answer says: level, TE, AE and the counts
-abbrev pub read_says : ReadAnswer → Outcome Contents
-read_says (ReadAnswer.Read contents) = accepted contents
-read_says (ReadAnswer.Refused why) = refused_by why
 
 abbrev pub counted : Content → Contents
 counted c = record { level = c.plan.level; te = c.plan.te; ae = c.plan.ae; words = length c.words; lines = length c.values }
@@ -38,16 +34,11 @@ pub record Rooms (w v : List ℕ) (e : List ℤ) : Type 0 where
   pub errors : most_file_lines ≤ length e
 
 -- the reader's promise: words, values and errors are the buffers before, words', values' and errors' after
-pub record ReadPromise (file words values : List ℕ) (errors : List ℤ) (r : ReadAnswer) (words' values' : List ℕ) (errors' : List ℤ) : Type 0 where
-  pub answer : read_says r ≡ counts_of (read_of file (length words) (length values) (length errors))
+pub record ReadPromise (file words values : List ℕ) (errors : List ℤ) (r : Result Contents Refusal) (words' values' : List ℕ) (errors' : List ℤ) : Type 0 where
+  pub answer : says r ≡ counts_of (read_of file (length words) (length values) (length errors))
   pub words_left : words' ≡ left (λ c. over c.words words) words (read_of file (length words) (length values) (length errors))
   pub values_left : values' ≡ left (λ c. over c.values values) values (read_of file (length words) (length values) (length errors))
   pub errors_left : errors' ≡ left (λ c. over c.errors errors) errors (read_of file (length words) (length values) (length errors))
-
--- what the writer's answer says: the length
-abbrev pub write_says : WriteAnswer → Outcome ℕ
-write_says (WriteAnswer.Written length) = accepted length
-write_says (WriteAnswer.Refused why) = refused_by why
 
 -- whether a content has a legal file
 abbrev pub has_file : Content → Bool
@@ -67,6 +58,6 @@ abbrev pub content_with : Plan → List ℕ → List ℕ → List ℤ → Conten
 content_with plan words values errors = record { plan = plan; words = words; values = values; errors = errors }
 
 -- the writer's promise: file is the buffer before, file' after
-pub record WritePromise (plan : Plan) (words values : List ℕ) (errors : List ℤ) (file : List ℕ) (r : WriteAnswer) (file' : List ℕ) : Type 0 where
-  pub answer : write_says r ≡ after (λ bs. accepted (length bs)) (write_of (content_with plan words values errors) (length file))
+pub record WritePromise (plan : Plan) (words values : List ℕ) (errors : List ℤ) (file : List ℕ) (r : Result ℕ Refusal) (file' : List ℕ) : Type 0 where
+  pub answer : says r ≡ after (λ bs. accepted (length bs)) (write_of (content_with plan words values errors) (length file))
   pub file_left : file' ≡ left (λ bs. over bs file) file (write_of (content_with plan words values errors) (length file))

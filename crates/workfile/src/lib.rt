@@ -1,8 +1,6 @@
 // The working file: its records, its limits, and what the reader and the writer answer. What a file holds is defined in specs/.
 #![tactic(auto)]
 
-use terms::Refusal;
-
 // The largest counts that a file holds, and the length of the longest legal file.
 pub const MOST_WORDS: usize = 64;
 
@@ -29,7 +27,7 @@ pub enum FileRecord {
 }
 
 // What the rules ask of the records so far; `next_line` is the lowest line that an E or U may name.
-#[derive(Clone, Copy)]
+#[derive(Clone, Copy, Default)]
 pub struct Tally {
     pub words: usize,
     pub lines: usize,
@@ -45,18 +43,4 @@ pub struct Contents {
     pub ae: u64,
     pub words: u64,
     pub lines: u64,
-}
-
-// What the reader answers.
-#[derive(Clone, Copy)]
-pub enum ReadAnswer {
-    Read(Contents),
-    Refused(Refusal),
-}
-
-// What the writer answers: the file's length.
-#[derive(Clone, Copy)]
-pub enum WriteAnswer {
-    Written(u64),
-    Refused(Refusal),
 }

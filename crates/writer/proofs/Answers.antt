@@ -1,5 +1,6 @@
 -- The whole file, and the writer's promise case by case. Assumes nothing.
 use Prim.Native.Nat.{ℕ, ◌+◌, ◌*◌, ◌<◌, ◌≤◌}
+use Rattle.std.specs.Prelude.{Option, Some, None, Ok, Err}
 use mathlib.Core.Path.{◌≡◌, ap, ap₂, subst, sym, ◌∙◌}
 use mathlib.Core.List.{List, ◌∷◌, ◌++◌}
 use native.Mathlib.Omega.{arith}
@@ -10,18 +11,15 @@ use lib.ListN.{length, length-append}
 use Rattle.terms.specs.Outcome.{accepted, refused_by, after, left}
 use Rattle.terms.specs.Numbers.{sum}
 use Rattle.terms.specs.declared.Refusal.{Refusal}
-use Rattle.terms.specs.declared.Refusal.TheVariants.{LengthsDiffer, NoLegalFile, RoomTooShort}
+use Rattle.terms.specs.declared.Refusal.TheVariants.{NoLegalFile, RoomTooShort}
 use Rattle.terms.proofs.Tests.{by_test}
 use Rattle.workfile.specs.Numbers.{bytes}
 use Rattle.workfile.specs.Content.{Content, most_words, most_file_lines, sum_bound, plan_bytes, bytes_of, error_records, closing, encode, Counts}
 use Rattle.workfile.specs.Promises.{over, write_of, content_with, WritePromise}
 use Rattle.workfile.specs.declared.Plan.{Plan}
-use Rattle.workfile.specs.declared.WriteAnswer.TheVariants.{Written, Refused}
 use Rattle.workfile.proofs.Growing.{encode_parts, length_encode}
 use Rattle.workfile.proofs.Promises as law
 use Rattle.writer.specs.Parts.{Laid, rows, front_bytes, error_bytes, total_of, HasRoom}
-use Rattle.writer.specs.declared.Total.{Total}
-use Rattle.writer.specs.declared.Total.TheVariants.{Sum, Past}
 use Rattle.writer.proofs.Laying.{lay_over, laid_on}
 use Rattle.writer.proofs.Rows.{rows_words, rows_values, length_rows, length_error_bytes}
 
@@ -46,50 +44,40 @@ pub has_room : (p : Plan) (w v : List ℕ) (e : List ℤ) (room : ℕ) → 31 + 
 has_room p w v e room h = record { front = length_front p w v; fits = omega (arith, length_error_bytes e) }
 
 -- what the total says
-module _ (vs : List ℕ) (t : Total) (is : t ≡ total_of vs) where
-  by_sum : (P : Total → Type 0) → (sum vs < sum_bound → P (Sum (sum vs))) → (sum_bound ≤ sum vs → P Past) → P t
+module _ (vs : List ℕ) where
+  by_sum : (P : Option ℕ → Type 0) → (sum vs < sum_bound → P (Some (sum vs))) → (sum_bound ≤ sum vs → P None) → P (total_of vs)
   unfolding total_of
-  by_sum P small big = subst P (sym is) (by_test P (ltb (sum vs) sum_bound) (λ h. small (ltb-true _ _ h)) (λ h. big (ltb-false _ _ h)))
+  by_sum P small big = by_test P (ltb (sum vs) sum_bound) (λ h. small (ltb-true _ _ h)) (λ h. big (ltb-false _ _ h))
 
-  pub its_sum : (s : ℕ) → t ≡ Sum s → s ≡ sum vs
-  its_sum s = by_sum (λ x. x ≡ Sum s → s ≡ sum vs) (λ h e. cc) (λ h e. absurd (let z : ◌≡◌ {A = ℕ} 0 1 = cc in omega arith))
+  pub its_sum : (s : ℕ) → Some s ≡ total_of vs → s ≡ sum vs
+  its_sum s = by_sum (λ x. Some s ≡ x → s ≡ sum vs) (λ h e. cc) (λ h e. absurd (let z : ◌≡◌ {A = ℕ} 0 1 = cc in omega arith))
 
-  pub small_sum : (s : ℕ) → t ≡ Sum s → sum vs < sum_bound
-  small_sum s = by_sum (λ x. x ≡ Sum s → sum vs < sum_bound) (λ h e. h) (λ h e. absurd (let z : ◌≡◌ {A = ℕ} 0 1 = cc in omega arith))
+  pub small_sum : (s : ℕ) → Some s ≡ total_of vs → sum vs < sum_bound
+  small_sum s = by_sum (λ x. Some s ≡ x → sum vs < sum_bound) (λ h e. h) (λ h e. absurd (let z : ◌≡◌ {A = ℕ} 0 1 = cc in omega arith))
 
-  past_sum : t ≡ Past → sum_bound ≤ sum vs
-  past_sum = by_sum (λ x. x ≡ Past → sum_bound ≤ sum vs) (λ h e. absurd (let z : ◌≡◌ {A = ℕ} 0 1 = cc in omega arith)) (λ h e. h)
+  past_sum : (t : Option ℕ) → t ≡ total_of vs → ((s : ℕ) → t ≡ Some s → ⊥) → sum_bound ≤ sum vs
+  past_sum t is none = by_sum (λ x. t ≡ x → sum_bound ≤ sum vs) (λ h e. absurd (none (sum vs) e)) (λ h e. h) is
 
 module _ (p : Plan) (w v : List ℕ) (e : List ℤ) (f : List ℕ) where
   abbrev c : Content
   c = content_with p w v e
 
-  refuse : (why : Refusal) → write_of c (length f) ≡ refused_by why → WritePromise p w v e f (Refused why) f
+  refuse : (why : Refusal) → write_of c (length f) ≡ refused_by why → WritePromise p w v e f (Err why) f
   refuse why q = record { answer = sym (ap (after (λ bs. accepted (length bs))) q); file_left = sym (ap (left (λ bs. over bs f) f) q) }
 
-  pub differ : (length e ≡ length v → ⊥) → WritePromise p w v e f (Refused LengthsDiffer) f
-  differ h = refuse LengthsDiffer (law.lengths_differ c (length f) h)
-
-  module _ (same : length e ≡ length v) where
-    pub many_words : most_words < length w → WritePromise p w v e f (Refused NoLegalFile) f
-    many_words h = refuse NoLegalFile (law.many_words c (length f) same h)
-
-    module _ (few : length w ≤ most_words) where
-      pub many_lines : most_file_lines < length v → WritePromise p w v e f (Refused NoLegalFile) f
-      many_lines h = refuse NoLegalFile (law.many_lines c (length f) same few h)
-
-      pub past : (t : Total) → t ≡ total_of v → t ≡ Past → length v ≤ most_file_lines → WritePromise p w v e f (Refused NoLegalFile) f
-      past t is told h = refuse NoLegalFile (law.sum_past c (length f) same few h (past_sum v t is told))
+  pub past : length e ≡ length v → length w ≤ most_words → (t : Option ℕ) → t ≡ total_of v → ((s : ℕ) → t ≡ Some s → ⊥) → length v ≤ most_file_lines
+      → WritePromise p w v e f (Err NoLegalFile) f
+  past same few t is none h = refuse NoLegalFile (law.sum_past c (length f) same few h (past_sum v t is none))
 
   -- the room decides
   module _ (k : Counts (content_with p w v e)) where
-    pub no_room : (n : ℕ) → n ≡ 31 + 9 * length w + 9 * length v + 13 * length (error_records 0 e) → length f < n → WritePromise p w v e f (Refused (RoomTooShort n)) f
+    pub no_room : (n : ℕ) → n ≡ 31 + 9 * length w + 9 * length v + 13 * length (error_records 0 e) → length f < n → WritePromise p w v e f (Err (RoomTooShort n)) f
     no_room n needed h =
         let long : n ≡ length (encode c) = needed ∙ sym (length_encode c) in
         refuse (RoomTooShort n) (law.counts_short c (length f) k (omega arith) ∙ ap (λ (m : ℕ). refused_by (RoomTooShort m)) (sym long))
 
     pub written : {f' : List ℕ} {m : ℕ} → 31 + 9 * length w + 9 * length v + 13 * length (error_records 0 e) ≤ length f → Laid f 0 (encode c) f' m
-        → WritePromise p w v e f (Written m) f'
+        → WritePromise p w v e f (Ok m) f'
     written h d =
         let room : length (encode c) ≤ length f = omega (arith, length_encode c) in
         let g = law.counts_write c (length f) k room in

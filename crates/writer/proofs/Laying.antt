@@ -1,10 +1,15 @@
 -- Bytes laid one after another, and what is left to lay. Assumes nothing.
-use Prim.Native.Nat.{ℕ, zero, suc, ◌+◌, ◌-◌, ◌/◌, ◌%◌, ◌<◌, ◌≤◌}
-use mathlib.Core.Path.{◌≡◌, refl, ap, subst, sym, ◌∙◌}
+use Prim.Native.Nat.{ℕ, zero, suc, ◌+◌, ◌^◌, ◌/◌, ◌%◌, ◌≤◌}
+use mathlib.Core.Path.{◌≡◌, refl, ap, ap₂, sym, ◌∙◌}
+use Rattle.std.proofs.Common.{append_assoc}
 use mathlib.Core.List.{List, [], ◌∷◌, ◌++◌}
 use native.Mathlib.Omega.{arith}
-use lib.ListN.{length, drop, set, length-append, length-set}
-use lib.Seq.{sets, length-sets, sets-eq}
+use lib.ListN.{length, take, drop, set, length-append, length-set}
+use lib.Seq.{sets, length-sets, sets-eq, drop-drop}
+use native.Mathlib.Nat.{div-div-eq-div-mul, pow-suc}
+use borrow.Rule.Slice.PartMut.{put_mid}
+use Rattle.std.specs.Int.{byte_at, bytes_low_first}
+use Rattle.workfile.proofs.Numbers.{length_bytes}
 use Rattle.workfile.specs.Numbers.{bytes}
 use Rattle.workfile.specs.Promises.{over}
 use Rattle.writer.specs.Parts.{lay, Laid}
@@ -78,26 +83,29 @@ module _ {file₀ : List ℕ} {at : ℕ} {all file : List ℕ} {to : ℕ} {rest 
   unfolding lay
   left_done e = record { same = sym (ap (lay file to) e) ∙ l.same; ends = let n : length rest ≡ 0 = ap length e in omega (arith, l.ends) }
 
--- the bytes of a number, the lowest first: `left` of them are still to be laid, those of `rest`
-pub record Digits (file₀ : List ℕ) (at number count : ℕ) (file : List ℕ) (rest to left : ℕ) : Type 0 where
-  pub ends : to + left ≡ at + count
-  pub to_lay : Left file₀ at (bytes count number) file to (bytes left rest)
+-- the lowest bytes of a number
+byte_of : (i x : ℕ) → byte_at i x ≡ x / 256 ^ i % 256
+byte_of zero x = omega arith
+byte_of (suc i) x = refl
 
-pub digits_start : (file : List ℕ) (at number count : ℕ) → Digits file at number count file number at count
-digits_start file at number count = record { ends = refl; to_lay = left_start file at (bytes count number) }
+low_bytes : (n i k x : ℕ) → n ≤ k → take n (bytes_low_first i k x) ≡ bytes n (x / 256 ^ i)
+low_bytes zero i k x h = refl
+low_bytes (suc n) i zero x h = absurd (omega arith)
+low_bytes (suc n) i (suc k) x h =
+    let next : x / 256 ^ suc i ≡ x / 256 ^ i / 256 = sym (div-div-eq-div-mul x (256 ^ i) 256 ∙ ap (λ (d : ℕ). x / d) (sym (pow-suc 256 i))) in
+    ap₂ (λ (b : ℕ) (l : List ℕ). b ∷ l) (byte_of i x) (low_bytes n (suc i) k x (omega arith) ∙ ap (bytes n) next)
 
-module _ {file₀ : List ℕ} {at number count : ℕ} {file : List ℕ} {rest to : ℕ} where
-  pub digits_on : (left : ℕ) → Digits file₀ at number count file rest to left → 0 < left
-      → Digits file₀ at number count (set file to (rest % 256)) (rest / 256) (to + 1) (left - 1)
-  digits_on zero d h = absurd (omega arith)
-  digits_on (suc n) d h =
-      let z : suc n - 1 ≡ n = omega arith in
-      record {
-        ends = omega (arith, d.ends);
-        to_lay = subst (λ (k : ℕ). Left file₀ at (bytes count number) (set file to (rest % 256)) (to + 1) (bytes k (rest / 256))) (sym z)
-            (left_on d.to_lay (rest % 256 ∷ []) (bytes n (rest / 256)) refl (one_byte file to (rest % 256)));
-      }
-
-  pub digits_done : (left : ℕ) → Digits file₀ at number count file rest to left → left ≤ 0 → Laid file₀ at (bytes count number) file to
-  digits_done zero d h = left_done d.to_lay refl
-  digits_done (suc n) d h = absurd (omega arith)
+pub number_laid : (file : List ℕ) (at count number : ℕ) {k : ℕ} {part all : List ℕ} → k ≡ count → at + count ≤ length file → count ≤ 8
+    → all ≡ bytes_low_first 0 8 number → part ≡ take count all → Laid file at (bytes count number) (put_mid at k file part) (at + count)
+unfolding lay
+number_laid file at count number {k} {part} wide room few whole is =
+    let bs = bytes count number in
+    let one : number / 256 ^ 0 ≡ number = omega arith in
+    let same : part ≡ bs = is ∙ ap (take count) whole ∙ low_bytes count 0 8 number few ∙ ap (bytes count) one in
+    let long : length bs ≡ count = length_bytes count number in
+    let rest : drop k (drop at file) ≡ drop (at + length bs) file = ap (λ (n : ℕ). drop n (drop at file)) wide ∙ drop-drop count at file ∙ ap (λ (n : ℕ). drop (at + n) file) (sym long) in
+    let joined : (take at file ++ bs) ++ drop (at + length bs) file ≡ take at file ++ (bs ++ drop (at + length bs) file) = simp append_assoc in
+    record {
+      same = ap₂ (λ (l r : List ℕ). take at file ++ (l ++ r)) same rest ∙ sym joined ∙ sym (sets-eq bs file at (omega arith));
+      ends = omega arith;
+    }

@@ -1,7 +1,8 @@
 -- The loops over a list: what is left to lay, to count or to add of it from a line on. Assumes nothing.
-use Prim.Native.Nat.{ℕ, suc, ◌+◌, ◌-◌, ◌*◌, ◌^◌, ◌<◌, ◌≤◌}
+use Prim.Native.Nat.{ℕ, suc, ◌+◌, ◌*◌, ◌^◌, ◌<◌, ◌≤◌}
+use Rattle.std.specs.Prelude.{Some, None}
 use mathlib.Core.Path.{◌≡◌, refl, ap, ap₂, subst, sym, ◌∙◌}
-use mathlib.Core.Bool.{Bool, true, false}
+use mathlib.Core.Bool.{Bool}
 use mathlib.Core.List.{List, [], ◌∷◌, ◌++◌, map}
 use native.Mathlib.Omega.{arith}
 use native.Mathlib.Numerals.{add-one}
@@ -14,14 +15,13 @@ use mir.Val.{SFits}
 use lib.Seq.{drop-cons}
 use Rattle.terms.specs.Numbers.{sum}
 use Rattle.signed.specs.Errors.{size_of, is_under}
-use Rattle.signed.proofs.Signs.{held, kept, kind_read, size_read, below, below_size}
+use Rattle.signed.proofs.Signs.{held, kept, kind_read, size_read}
 use Rattle.workfile.specs.Numbers.{bytes}
 use Rattle.workfile.specs.Content.{error_kind, bytes_of, bytes_of_all, error_record, error_records, sum_bound}
 use Rattle.workfile.specs.declared.FileRecord.{FileRecord}
 use Rattle.workfile.specs.declared.FileRecord.TheVariants.{Word, Value}
 use Rattle.workfile.proofs.Lists.{bytes_append, some_record, errors_append, length_errors}
 use Rattle.writer.specs.Parts.{Laid, rows, error_bytes, total_of}
-use Rattle.writer.specs.declared.Total.TheVariants.{Sum, Past}
 use Rattle.writer.proofs.Laying.{laid_none, Left, left_start, left_on, left_room, left_done}
 
 more : {A : Type 0} (l : List A) (i : ℕ) (d : A) → i < length l → drop i l ≡ get_or l i d ∷ drop (i + 1) l
@@ -59,9 +59,6 @@ pub record RowsLeft (file₀ : List ℕ) (at kind : ℕ) (list file : List ℕ) 
   pub within : i ≤ length list
   pub to_lay : Left file₀ at (rows kind list) file to (rows kind (drop i list))
 
-pub rows_start : (file : List ℕ) (at kind : ℕ) (list : List ℕ) → RowsLeft file at kind list file 0 at
-rows_start file at kind list = record { within = omega arith; to_lay = left_start file at (rows kind list) }
-
 module _ {file₀ : List ℕ} {at kind : ℕ} {list file : List ℕ} {i to : ℕ} (l : RowsLeft file₀ at kind list file i to) where
   pub rows_room : i < length list → at + 9 * length list ≤ length file₀ → to + 9 ≤ length file
   rows_room h room =
@@ -86,36 +83,23 @@ an_error i e h = ap (λ (l : List FileRecord). bytes_of_all (l ++ [])) (some_rec
 
 -- the bytes of one error, from the test and the size of what was read
 module _ (line : ℕ) (e : ℤ) (fits : SFits w64 e) where
-  some_under : lt_z (held e) (pos 0) ≡ true → 0 < size_of e
-  some_under test = omega (arith, below_size (below e fits test))
-
-  error_room : (at room : ℕ) → 0 < size_of e → at + length (error_bytes line (e ∷ [])) ≤ room → at + 13 ≤ room
-  error_room at room some r = omega (arith, ap length (an_error line e some))
-
-  pub under_room : (at room : ℕ) → lt_z (held e) (pos 0) ≡ true → at + length (error_bytes line (e ∷ [])) ≤ room → at + 13 ≤ room
-  under_room at room test = error_room at room (some_under test)
-
   module _ {n : ℕ} (told : n ≡ size_of (held e)) where
     same : n ≡ size_of e
     same = size_read e fits.sfits told
 
-    laid : {f g : List ℕ} {at next : ℕ} (u : Bool) → lt_z (held e) (pos 0) ≡ u → 0 < size_of e → Laid f at (error_kind u ∷ (bytes 4 line ++ bytes 8 n)) g next → Laid f at (error_bytes line (e ∷ [])) g next
-    laid {f} {g} {at} {next} u test some w =
-        let spelled : error_kind u ∷ (bytes 4 line ++ bytes 8 n) ≡ error_bytes line (e ∷ []) =
-        ap₂ (λ (b : Bool) (m : ℕ). error_kind b ∷ (bytes 4 line ++ bytes 8 m)) (sym (kind_read e fits.sfits test)) same ∙ sym (an_error line e some) in
-        subst (λ (l : List ℕ). Laid f at l g next) spelled w
-
-    pub under_laid : {f g : List ℕ} {at next : ℕ} → lt_z (held e) (pos 0) ≡ true → Laid f at (0x55 ∷ (bytes 4 line ++ bytes 8 n)) g next → Laid f at (error_bytes line (e ∷ [])) g next
-    under_laid test = laid true test (some_under test)
-
     pub none_laid : (f : List ℕ) (at : ℕ) → n ≡ 0 → Laid f at (error_bytes line (e ∷ [])) f at
     none_laid f at h = subst (λ (l : List ℕ). Laid f at l f at) (sym (no_error line e (sym same ∙ h))) (laid_none f at)
 
-    pub over_room : (at room : ℕ) → (n ≡ 0 → ⊥) → at + length (error_bytes line (e ∷ [])) ≤ room → at + 13 ≤ room
-    over_room at room h = error_room at room (omega (arith, same))
+    pub some_room : (at room : ℕ) → (n ≡ 0 → ⊥) → at + length (error_bytes line (e ∷ [])) ≤ room → at + 13 ≤ room
+    some_room at room h r = let some : 0 < size_of e = omega (arith, same) in omega (arith, ap length (an_error line e some))
 
-    pub over_laid : {f g : List ℕ} {at next : ℕ} → lt_z (held e) (pos 0) ≡ false → (n ≡ 0 → ⊥) → Laid f at (0x45 ∷ (bytes 4 line ++ bytes 8 n)) g next → Laid f at (error_bytes line (e ∷ [])) g next
-    over_laid test h = laid false test (omega (arith, same))
+    pub kind_laid : {f g : List ℕ} {at next kind : ℕ} (u : Bool) → lt_z (held e) (pos 0) ≡ u → (n ≡ 0 → ⊥) → kind ≡ error_kind u
+        → Laid f at (kind ∷ (bytes 4 line ++ bytes 8 n)) g next → Laid f at (error_bytes line (e ∷ [])) g next
+    kind_laid {f} {g} {at} {next} {kind} u test some is w =
+        let spelled : kind ∷ (bytes 4 line ++ bytes 8 n) ≡ error_bytes line (e ∷ []) =
+        ap (λ (k : ℕ). k ∷ (bytes 4 line ++ bytes 8 n)) is
+        ∙ ap₂ (λ (b : Bool) (m : ℕ). error_kind b ∷ (bytes 4 line ++ bytes 8 m)) (sym (kind_read e fits.sfits test)) same ∙ sym (an_error line e (omega (arith, same))) in
+        subst (λ (l : List ℕ). Laid f at l g next) spelled w
 
 errors_more : (es : List ℤ) (i : ℕ) → i < length es → error_bytes i (drop i es) ≡ error_bytes i (get_or es i (pos 0) ∷ []) ++ error_bytes (i + 1) (drop (i + 1) es)
 unfolding error_bytes
@@ -159,7 +143,7 @@ module _ {file₀ : List ℕ} {at : ℕ} {file : List ℕ} {errors : List ℤ} {
     pub errors_on : {file' : List ℕ} {to' : ℕ} → Laid file to (error_bytes line (held (get_or errors line (pos 0)) ∷ [])) file' to' → ErrorsLeft file₀ at errors file' (line + 1) to'
     errors_on w = record { within = omega arith; to_lay = left_on l.to_lay (error_bytes line (held (get_or errors line (pos 0)) ∷ [])) rest next w }
 
--- their number: those from a line on are left to count
+-- the count of the errors that are not 0: what is left to count adds to it
 pub record CountLeft (errors : List ℤ) (line count : ℕ) : Type 0 where
   pub within : line ≤ length errors
   pub few : count ≤ line
@@ -183,12 +167,12 @@ module _ {errors : List ℤ} {line count : ℕ} (l : CountLeft errors line count
         ∙ length-append first (error_records (suc line) (drop (line + 1) errors))
         ∙ ap (λ (k : ℕ). length first + length (error_records k (drop (line + 1) errors))) (sym (add-one line))
 
-    pub count_one : 0 < n → CountLeft errors (line + 1) (count + 1)
+    pub count_one : (n ≡ 0 → ⊥) → CountLeft errors (line + 1) (count + 1)
     count_one p =
-        let some : 0 < size_of e = omega (arith, size_read e fits told) in
+        let some : 0 < size_of e = omega (arith, size_read e fits told, p) in
         record { within = omega arith; few = omega (arith, l.few); same = omega (arith, l.same, counted, ap length (some_record line (is_under e) (size_of e) some)) }
 
-    pub count_none : n ≤ 0 → CountLeft errors (line + 1) count
+    pub count_none : n ≡ 0 → CountLeft errors (line + 1) count
     count_none p =
         let none : size_of e ≡ 0 = omega (arith, size_read e fits told) in
         record { within = omega arith; few = omega (arith, l.few); same = omega (arith, l.same, counted, ap (λ (k : ℕ). length (error_record line (is_under e) k)) none) }
@@ -200,14 +184,14 @@ pub record SumLeft (values : List ℕ) (line total : ℕ) : Type 0 where
   pub small : total < sum_bound
 
 module _ {values : List ℕ} {line total : ℕ} (l : SumLeft values line total) where
-  pub sum_past : line < length values → 0xFFFF_FFFF_FFFF_FFFF - total < get_or values line 0 → Past ≡ total_of values
+  pub sum_past : line < length values → 2 ^ 64 ≤ total + get_or values line 0 → None ≡ total_of values
   unfolding total_of
   sum_past h p = rw (le-ltb (sum values) sum_bound (omega (arith, l.same, l.small, ap sum (more values line 0 h))))
 
-  pub sum_on : line < length values → get_or values line 0 ≤ 0xFFFF_FFFF_FFFF_FFFF - total → SumLeft values (line + 1) (total + get_or values line 0)
+  pub sum_on : line < length values → total + get_or values line 0 < 2 ^ 64 → SumLeft values (line + 1) (total + get_or values line 0)
   sum_on h p = record { within = omega arith; same = omega (arith, l.same, ap sum (more values line 0 h)); small = omega (arith, l.small) }
 
-  pub sum_done : length values ≤ line → Sum total ≡ total_of values
+  pub sum_done : length values ≤ line → Some total ≡ total_of values
   unfolding total_of
   sum_done h =
       let e : total ≡ sum values = omega (arith, l.same, ap sum (drop_of_length-le values h)) in

@@ -1,11 +1,10 @@
 -- The parts of the writer: bytes laid from a place on, the bytes of a list, and its sum. Definitions: nothing is assumed.
-use Rattle.std.specs.Prelude.{ℕ, ◌+◌, ◌*◌, ◌≤◌, ◌≡◌, List, [], ◌∷◌, ◌++◌, ltb, length, ℤ}
+use Rattle.std.specs.Prelude.{ℕ, ◌+◌, ◌*◌, ◌≤◌, ◌≡◌, List, [], ◌∷◌, ◌++◌, ltb, length, ℤ, Option, Some, None}
 use Rattle.std.proofs.lemmas.List.Edits.{sets}
 use Rattle.terms.specs.Numbers.{pick, sum}
 use Rattle.workfile.specs.Numbers.{bytes}
 use Rattle.workfile.specs.Content.{Content, plan_bytes, bytes_of_all, error_records, sum_bound}
 use Rattle.workfile.specs.declared.Plan.{Plan}
-use Rattle.writer.specs.declared.Total.{Total}
 
 -- a file with bytes stored one by one from a place on
 unfoldable pub lay : List ℕ → ℕ → List ℕ → List ℕ
@@ -26,8 +25,8 @@ unfoldable pub error_bytes : ℕ → List ℤ → List ℕ
 error_bytes line errors = bytes_of_all (error_records line errors)
 
 -- the sum, where it is within 64 bits
-unfoldable pub total_of : List ℕ → Total
-total_of values = pick (ltb (sum values) sum_bound) (Total.Sum (sum values)) Total.Past
+unfoldable pub total_of : List ℕ → Option ℕ
+total_of values = pick (ltb (sum values) sum_bound) (Some (sum values)) None
 
 -- P, and the records W and L
 abbrev pub front_bytes : Plan → List ℕ → List ℕ → List ℕ

@@ -6,24 +6,17 @@ ghost use Rattle.writer.specs.Parts.{Laid};
 
 use workfile::Plan;
 
-// The bytes of a number, the lowest first.
+// The lowest bytes of a number, the lowest first.
 fn put_number(file: &mut [u8], at: usize, number: u64, count: usize) -> usize
-    requires { at + count ≤ length file.old }
+    requires { (at + count ≤ length file.old) × (count ≤ 8) }
     ensures { Laid file.old at (bytes count number) file.new result }
 {
-    let mut rest = number;
-    let mut to = at;
-    let mut left = count;
-    while 0 < left {
-        file[to] = (rest % 256) as u8;
-        rest = rest / 256;
-        to += 1;
-        left -= 1;
-    }
-    to
+    file[at..at + count].copy_from_slice(&number.to_le_bytes()[..count]);
+    at + count
 }
 
 // A kind and a number of 8 bytes.
+#[tactic(auto, using(crate::proofs::Laying::long_byte, crate::proofs::Laying::long_bytes, crate::proofs::Laying::long))]
 pub fn put_one(file: &mut [u8], at: usize, kind: u8, number: u64) -> usize
     requires { at + 9 ≤ length file.old }
     ensures { Laid file.old at (kind ∷ bytes 8 number) file.new result }
@@ -33,6 +26,7 @@ pub fn put_one(file: &mut [u8], at: usize, kind: u8, number: u64) -> usize
 }
 
 // A kind, a number of 4 bytes and one of 8.
+#[tactic(auto, using(crate::proofs::Laying::long_byte, crate::proofs::Laying::long_bytes, crate::proofs::Laying::long))]
 pub fn put_two(file: &mut [u8], at: usize, kind: u8, first: usize, second: u64) -> usize
     requires { at + 13 ≤ length file.old }
     ensures { Laid file.old at (kind ∷ (bytes 4 first ++ bytes 8 second)) file.new result }
@@ -43,6 +37,7 @@ pub fn put_two(file: &mut [u8], at: usize, kind: u8, first: usize, second: u64) 
 }
 
 // P, at the front of the file.
+#[tactic(auto, using(crate::proofs::Laying::long_byte, crate::proofs::Laying::long_bytes, crate::proofs::Laying::long))]
 pub fn put_plan(file: &mut [u8], plan: Plan) -> usize
     requires { 18 ≤ length file.old }
     ensures { Laid file.old 0 (plan_bytes plan) file.new result }

@@ -5,8 +5,8 @@ use Rattle.pen.proofs.Writing.{◌⨾◌, as_text}
 use Rattle.answers.proofs.Texts.{refused_text, figures_text_lem}
 use Rattle.answers.proofs.put.Goals as goal
 
-pub returns-then-refusal-gt0 : goal.returns-then-refusal-gt0
-returns-then-refusal-gt0 c = as_text (refused_text _ _ _ _ _ (omega arith)) (search (rules, ◌⨾◌))
+pub returns-then-answer-gt0 : goal.returns-then-answer-gt0
+returns-then-answer-gt0 c = as_text (refused_text _ _ _ _ _ (omega arith)) (search (rules, ◌⨾◌))
 
 pub returns : goal.returns
 returns c = as_text (figures_text_lem _ _ _ _ _ (omega arith)) (search (rules, ◌⨾◌))

@@ -1,12 +1,9 @@
--- `blackboard::board_draw` meets its contract: the refusal of the figures, or the lines marked at their interval. Assumes nothing.
-use Rattle.blackboard.proofs.Answer.{on_board, beside_same, draw_refused, draw_drawn}
+-- The ledger of accepted figures is within the limits, and the marks have its length.
+use Rattle.blackboard.proofs.Answer.{on_board, beside_same}
 use Rattle.blackboard.proofs.board_draw.Goals as goal
 
-pub mark_lines-drawn-requires : goal.mark_lines-drawn-requires
-mark_lines-drawn-requires c = (search on_board, search beside_same)
+pub invariant_of-board : goal.invariant_of-board
+invariant_of-board c = record { on = on_board _ _ _ _ c.in_ok-figures.ensures.answer }
 
-pub returns-in-Refused : goal.returns-in-Refused
-returns-in-Refused c = search draw_refused
-
-pub returns-in-Split : goal.returns-in-Split
-returns-in-Split c = search draw_drawn
+pub mark_lines-requires : goal.mark_lines-requires
+mark_lines-requires c = beside_same _ _ _ _ c.in_ok-figures.ensures.answer

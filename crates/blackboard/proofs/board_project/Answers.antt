@@ -1,12 +1,9 @@
--- `blackboard::board_project` meets its contract: the refusals before the lines, and then the lines at the figures' interval. Assumes nothing.
-use Rattle.blackboard.proofs.Answer.{to_add, project_refused, projected}
+-- The ledger of accepted figures is within the limits, with the errors beside it.
+use Rattle.blackboard.proofs.Answer.{on_board, to_add}
 use Rattle.blackboard.proofs.board_project.Goals as goal
 
+pub invariant_of-board : goal.invariant_of-board
+invariant_of-board c = record { on = on_board _ _ _ _ c.in_ok-figures.ensures.answer }
+
 pub add_up-requires : goal.add_up-requires
-add_up-requires c = search to_add
-
-pub returns-in-Refused : goal.returns-in-Refused
-returns-in-Refused c = search project_refused
-
-pub returns-in-Split : goal.returns-in-Split
-returns-in-Split c = search projected
+add_up-requires c = to_add _ _ _ _ c.in_ok-figures.ensures.answer

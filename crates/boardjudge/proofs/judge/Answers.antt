@@ -1,9 +1,15 @@
--- `boardjudge::judge` meets its contract: the level's refusal, or the judgement at it. Assumes nothing.
-use Rattle.judge.proofs.Answer.{level_refused, level_judged}
+-- What the steps ask follows from the judgement of the ledger and the figures.
+use Rattle.split.proofs.Facts.{judged_asked}
+use Rattle.judge.proofs.Answer.{judged_ready}
 use Rattle.boardjudge.proofs.judge.Goals as goal
 
-pub returns-in-Refused : goal.returns-in-Refused
-returns-in-Refused c = search level_refused
+pub invariant_of-book : goal.invariant_of-book
+invariant_of-book c = record { totalled = judged_asked c.in_ok-total.ensures }
 
-pub returns-in-Known : goal.returns-in-Known
-returns-in-Known c = search level_judged
+pub invariant_of-board : goal.invariant_of-board
+invariant_of-board c =
+    let ready = judged_ready _ _ _ _ _ _ c.in_ok-figures.ensures c.in_ok-total.ensures.answer in
+    record { on = record { summed = ready.summed; narrow = ready.narrow } }
+
+pub judge_lines-requires : goal.judge_lines-requires
+judge_lines-requires c = judged_ready _ _ _ _ _ _ c.in_ok-figures.ensures c.in_ok-total.ensures.answer

@@ -4,4 +4,4 @@ use Rattle.confidence.proofs.Asking.{numbers_printed}
 use Rattle.confidence.proofs.print_statement.Goals as goal
 
 pub returns : goal.returns
-returns c = numbers_printed c.byte_of-level_byte.ensures c.byte_of-tolerance_byte.ensures _ (omega arith) c.put_statement-end.ensures
+returns c = numbers_printed c.byte_of.ensures c.byte_of-2.ensures _ (omega arith) c.put_statement.ensures

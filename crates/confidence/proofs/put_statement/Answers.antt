@@ -3,8 +3,8 @@ use borrow.Author.Rules.{rules}
 use Rattle.confidence.proofs.Writing.{items_refused, items_stated}
 use Rattle.confidence.proofs.put_statement.Goals as goal
 
-pub returns-in-Refused : goal.returns-in-Refused
-returns-in-Refused c = search (rules, items_refused)
+pub returns-in-Err : goal.returns-in-Err
+returns-in-Err c = search (rules, items_refused)
 
-pub returns-in-Items : goal.returns-in-Items
-returns-in-Items c = search (rules, items_stated)
+pub returns-in-Ok : goal.returns-in-Ok
+returns-in-Ok c = search (rules, items_stated)

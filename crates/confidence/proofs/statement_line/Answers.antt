@@ -4,4 +4,4 @@ use Rattle.confidence.proofs.Writing.{statement_laid}
 use Rattle.confidence.proofs.statement_line.Goals as goal
 
 pub returns : goal.returns
-returns c = statement_laid _ _ _ (search rules) c.text-opened.ensures c.fields-filled.ensures c.end_line.ensures
+returns c = statement_laid _ _ _ (search rules) c.text.ensures c.fields-filled.ensures c.end_line.ensures

@@ -6,8 +6,8 @@ use Rattle.divided.proofs.divide.Goals as goal
 pub loop-at-init : goal.loop-at-init
 loop-at-init c = search (rules, starts)
 
-pub returns-in-Not : goal.returns-in-Not
-returns-in-Not c = search (rules, out_of_order)
+pub returns-in-Err : goal.returns-in-Err
+returns-in-Err c = search (rules, out_of_order)
 
 pub with_part-so_far-requires : goal.with_part-so_far-requires
 with_part-so_far-requires c = search (rules, rooms)

@@ -6,5 +6,4 @@ use Rattle.faults.proofs.Lengths.{fault_short}
 use Rattle.faults.proofs.print_fault.Goals as goal
 
 pub returns : goal.returns
-returns c = let start = c.before.before in
-    printed _ _ _ _ (omega (arith, fault_short start.args.by start.args.fault (search rules))) c.write_line-end.ensures
+returns c = printed _ _ _ _ (omega (arith, fault_short c.args.by c.args.fault (search rules))) c.write_line.ensures

@@ -1,7 +1,6 @@
 -- `faults::write_line` meets its contract: its parts, one after the other. Assumes nothing.
-use borrow.Author.Rules.{rules}
 use Rattle.faults.proofs.Parts.{fault_laid}
 use Rattle.faults.proofs.write_line.Goals as goal
 
 pub returns : goal.returns
-returns c = search (rules, fault_laid)
+returns c = fault_laid c.args.by c.args.fault c.text.ensures c.number.ensures c.text-placed.ensures c.wrong_words.ensures c.text-2.ensures c.byte.ensures

@@ -8,16 +8,16 @@ pub loop-at-init : goal.loop-at-init
 loop-at-init c = search begins
 
 pub overflow_add-at : goal.overflow_add-at
-overflow_add-at c = omega (arith, next_fits c.loop-at.invariant c.loop-at-test.true c.first_file-first.ensures)
+overflow_add-at c = omega (arith, next_fits c.loop-at.invariant c.loop-at-test.true c.first_file-entry.ensures)
 
 pub loop-at-smaller : goal.loop-at-smaller
 loop-at-smaller c = search next_later
 
 pub loop-at-preserved : goal.loop-at-preserved
-loop-at-preserved c = search goes_on_lem
+loop-at-preserved c = goes_on_lem c.loop-at.invariant c.loop-at-test.true c.first_file-entry.ensures c.add-handed.ensures c.in-Ok.is
 
-pub returns-else-is_added : goal.returns-else-is_added
-returns-else-is_added c = search stops
+pub returns-in-Err : goal.returns-in-Err
+returns-in-Err c = stops c.loop-at.invariant c.loop-at-test.true c.first_file-entry.ensures c.add-handed.ensures c.in-Err.is (search)
 
 pub returns : goal.returns
 returns c = search ended

@@ -1,4 +1,4 @@
--- `findings::post` meets its contract: by all eight bits of the marks. Assumes nothing.
+-- By all eight bits of the marks.
 use Rattle.findings.proofs.Posting.{post_plain}
 use Rattle.findings.proofs.post.Goals as goal
 

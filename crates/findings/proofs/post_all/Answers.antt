@@ -1,4 +1,4 @@
--- `findings::post_all` meets its contract: by all eight bits of the marks. Assumes nothing.
+-- By all eight bits of the marks.
 use Rattle.findings.proofs.Pairs.{all_plain}
 use Rattle.findings.proofs.post_all.Goals as goal
 

@@ -1,7 +1,7 @@
--- `judge::conclude` meets its contract: the sums fit, and the verdict is the definition's. Assumes nothing.
+-- The sums fit, and the verdict is the definition's.
 use native.Mathlib.Omega.{arith}
 use Rattle.judge.proofs.Answer.{concludes}
 use Rattle.judge.proofs.conclude.Goals as goal
 
 pub returns : goal.returns
-returns c = concludes _ _ _ _ c.verdict_of-verdict.result (omega arith) c.verdict_of-verdict.ensures
+returns c = concludes _ _ _ _ c.verdict_of.result (omega arith) c.verdict_of.ensures

@@ -1,12 +1,20 @@
--- `lines::project_lines` meets its contract: the refusal of the figures, or the projection at their interval. Assumes nothing.
-use Rattle.lines.proofs.Answer.{lines_not_started, lines_ready, lines_same, lines_projected}
+-- `lines::project_lines` meets its contract: the refusal of a line, or the projection with every line written. Assumes nothing.
+use Rattle.std.proofs.lemmas.Result.{err_from_is_err_and}
+use Rattle.lines.proofs.Answer.{lines_ready, lines_refused, lines_writable, lines_projected}
 use Rattle.lines.proofs.project_lines.Goals as goal
 
-pub project_at-requires : goal.project_at-requires
-project_at-requires c = (search lines_ready, search lines_same)
+pub invariant_of-entered : goal.invariant_of-entered
+invariant_of-entered c =
+    record { ready = lines_ready _ _ _ _ c.args.amounts.now _ _ c.length_beside-beside.ensures c.in_ok-figures.ensures.answer }
 
-pub returns-in-Refused : goal.returns-in-Refused
-returns-in-Refused c = search lines_not_started
+pub returns-in_err-sums : goal.returns-in_err-sums
+returns-in_err-sums c =
+    let p = err_from_is_err_and c.from_residual-in_err-sums.result c.from_residual-in_err-sums.ensures.1 in
+    rw (p.1, p.2) (lines_refused _ _ _ _ _ _ _ c.length_beside-beside.ensures c.in_ok-figures.ensures.answer _ c.in_err-sums.ensures.answer)
 
-pub returns-in-Split : goal.returns-in-Split
-returns-in-Split c = search lines_projected
+pub write_amounts-requires : goal.write_amounts-requires
+write_amounts-requires c = lines_writable _ _ _ _ _ _ _ c.length_beside-beside.ensures c.in_ok-figures.ensures.answer _ c.in_ok-sums.ensures.answer
+
+pub returns : goal.returns
+returns c =
+    lines_projected _ _ _ _ _ _ _ c.length_beside-beside.ensures c.in_ok-figures.ensures.answer _ c.in_ok-sums.ensures.answer c.write_amounts.ensures

@@ -7,8 +7,8 @@ use Rattle.notation.proofs.check.Goals as goal
 pub loop-at-init : goal.loop-at-init
 loop-at-init c = search (rules, starts)
 
-pub returns-in-Stop : goal.returns-in-Stop
-returns-in-Stop c = search (rules, found_fault)
+pub returns-in-Err : goal.returns-in-Err
+returns-in-Err c = search (rules, found_fault)
 
 pub loop-at-smaller : goal.loop-at-smaller
 loop-at-smaller c = search (rules, less)

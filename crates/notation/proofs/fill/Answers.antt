@@ -8,17 +8,17 @@ use Rattle.notation.proofs.fill.Goals as goal
 pub loop-at-init : goal.loop-at-init
 loop-at-init c = search (rules, begins)
 
-pub shape_of-words-in-Stop : goal.shape_of-words-in-Stop
-shape_of-words-in-Stop c = search (rules, words_long)
+pub shape_of-words-in-Err : goal.shape_of-words-in-Err
+shape_of-words-in-Err c = search (rules, words_long)
 
-pub shape_of-values-in-Stop : goal.shape_of-values-in-Stop
-shape_of-values-in-Stop c = search (rules, values_long)
+pub shape_of-values-in-Err : goal.shape_of-values-in-Err
+shape_of-values-in-Err c = search (rules, values_long)
 
-pub shape_of-errors-in-Stop : goal.shape_of-errors-in-Stop
-shape_of-errors-in-Stop c = search (rules, errors_long)
+pub shape_of-errors-in-Err : goal.shape_of-errors-in-Err
+shape_of-errors-in-Err c = search (rules, errors_long)
 
-pub returns-in-Stop : goal.returns-in-Stop
-returns-in-Stop c = search (rules, stopped_filling)
+pub returns-in-Err : goal.returns-in-Err
+returns-in-Err c = search (rules, stopped_filling)
 
 pub keep-requires : goal.keep-requires
 keep-requires c = search (rules, line_place)

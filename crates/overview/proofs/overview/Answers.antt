@@ -4,4 +4,4 @@ use Rattle.overview.proofs.Short.{files_printed}
 use Rattle.overview.proofs.overview.Goals as goal
 
 pub returns : goal.returns
-returns c = files_printed _ c.tally_files-handed.result c.tally_files-handed.ensures (omega arith) c.print_season-end.ensures
+returns c = files_printed _ c.tally_files.result c.tally_files.ensures (omega arith) c.print_season.ensures

@@ -4,4 +4,4 @@ use Rattle.notation.proofs.Held.{words_fit}
 use Rattle.pack.proofs.pack.Goals as goal
 
 pub slice_bounds-words-end : goal.slice_bounds-words-end
-slice_bounds-words-end c = words_fit (record { words = _; values = _; errors = _; answer = _; rooms = empty_rooms; promise = c.parse.ensures; told = c.in-Parsed.is })
+slice_bounds-words-end c = words_fit (record { words = _; values = _; errors = _; rooms = empty_rooms; promise = c.in-Ok.ensures })

@@ -1,20 +1,15 @@
 -- `reply::reply_content` meets its contract: the first fault of the strata's order, or the sheet of as many counts as are stored. Assumes nothing.
 use mathlib.Core.Path.{refl}
 use borrow.Author.Rules.{rules}
-use Rattle.notation.proofs.Held.{part_long}
-use Rattle.reply.proofs.Replying.{content_faulty, lent_fits, content_printed}
+use Rattle.std.proofs.lemmas.Result.{err_from_is_err_and}
+use Rattle.reply.proofs.Replying.{content_faulty, content_printed}
 use Rattle.reply.proofs.reply_content.Goals as goal
 
-pub slice_bounds-counts-end : goal.slice_bounds-counts-end
-slice_bounds-counts-end c = search (rules, lent_fits)
+pub returns-in_err-divided : goal.returns-in_err-divided
+returns-in_err-divided c =
+    let p = err_from_is_err_and c.from_residual.result c.from_residual.ensures.1 in rw (p.1, p.2) (content_faulty _ _ _ _ _ _ c.in_err-divided.ensures)
 
-pub slice_bounds-own-end : goal.slice_bounds-own-end
-slice_bounds-own-end c = search (rules, part_long, lent_fits)
-
-pub returns-in-Faulty : goal.returns-in-Faulty
-returns-in-Faulty c = search content_faulty
-
-pub returns-in-InStrata : goal.returns-in-InStrata
-returns-in-InStrata c =
+pub returns : goal.returns
+returns c =
     let w = c.print_handout-end.ensures in
-    content_printed _ _ _ _ _ _ c.divide-divided.ensures c.in-InStrata.is c.requires c.up_to-stored.ensures (w.wrote, w.errors_len_bound) refl
+    content_printed _ _ _ _ _ _ c.in_ok-divided.ensures c.requires (search rules) (w.wrote, w.errors_len_bound) refl

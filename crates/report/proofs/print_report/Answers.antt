@@ -4,4 +4,4 @@ use Rattle.report.proofs.Writing.{report_printed}
 use Rattle.report.proofs.print_report.Goals as goal
 
 pub returns : goal.returns
-returns c = report_printed _ (omega arith) c.put_report-end.ensures
+returns c = report_printed _ (omega arith) c.put_report.ensures

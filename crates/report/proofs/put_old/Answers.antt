@@ -3,8 +3,8 @@ use borrow.Author.Rules.{rules}
 use Rattle.report.proofs.Writing.{old_laid, none_laid}
 use Rattle.report.proofs.put_old.Goals as goal
 
-pub returns-in-Stands : goal.returns-in-Stands
-returns-in-Stands c = search (rules, old_laid)
+pub returns-in-Some : goal.returns-in-Some
+returns-in-Some c = old_laid _ c.in-Some.is c.in-Some.count-is c.in-Some.sum-is (search rules) (search rules) (search rules)
 
-pub returns-in-Missing : goal.returns-in-Missing
-returns-in-Missing c = search (rules, none_laid)
+pub returns-in-None : goal.returns-in-None
+returns-in-None c = search (rules, none_laid)

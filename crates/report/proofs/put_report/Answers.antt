@@ -3,8 +3,8 @@ use borrow.Author.Rules.{rules}
 use Rattle.report.proofs.Writing.{report_refused, report_kept}
 use Rattle.report.proofs.put_report.Goals as goal
 
-pub returns-in-Refused : goal.returns-in-Refused
-returns-in-Refused c = search (rules, report_refused)
+pub returns-in-Err : goal.returns-in-Err
+returns-in-Err c = search (rules, report_refused)
 
-pub returns-in-Kept : goal.returns-in-Kept
-returns-in-Kept c = search (rules, report_kept)
+pub returns-in-Ok : goal.returns-in-Ok
+returns-in-Ok c = search (rules, report_kept)

@@ -1,9 +1,9 @@
--- `salvaging::old_size` meets its contract. Assumes nothing.
+-- The length of the old Z, where there is one. Assumes nothing.
 use Rattle.salvaging.proofs.Found.{size_there, size_none}
 use Rattle.salvaging.proofs.old_size.Goals as goal
 
-pub returns-in-Stands : goal.returns-in-Stands
-returns-in-Stands c = search size_there
+pub returns-in-Some : goal.returns-in-Some
+returns-in-Some c = size_there c.in-Some.is
 
-pub returns : goal.returns
-returns c = search size_none
+pub returns-in-None : goal.returns-in-None
+returns-in-None c = size_none c.in-None.is

@@ -1,10 +1,6 @@
--- `shares::portions_of` meets its contract. The measure is what is left of the strata. Assumes nothing.
-use Prim.Native.Nat.{◌-◌}
+-- The portions so far are written, and what is left is what the others take and what is left over.
 use Rattle.shares.proofs.Portioning.{Portioning}
 use Rattle.shares.proofs.portions_of.Given as goal
 
 abbrev pub invariant-loop-h : goal.invariant-loop-h
-invariant-loop-h l = Portioning l.books l.total l.n l.rest l.draws l.remainders l.leftover l.h
-
-abbrev pub decreases-loop-h : goal.decreases-loop-h
-decreases-loop-h l = 32 - l.h
+invariant-loop-h l = Portioning l.fn.books l.total l.n l.rest l.draws l.remainders l.leftover l.h

@@ -10,7 +10,7 @@ returns-then-by_board c =
     let text = board_printed _ c.by_board.ensures c.if-by_board.true (c.print_file.ensures.wrote, c.print_file.ensures.file_len_bound) in
     record { wrote = text.0; input_len_bound = text.1 }
 
-pub returns : goal.returns
-returns c =
-    let text = whole_printed _ c.by_board.ensures c.if-by_board.false (c.print_file-2.ensures.wrote, c.print_file-2.ensures.file_len_bound) in
+pub returns-else-by_board : goal.returns-else-by_board
+returns-else-by_board c =
+    let text = whole_printed _ c.by_board.ensures c.if-by_board.false (c.print_file-else-by_board.ensures.wrote, c.print_file-else-by_board.ensures.file_len_bound) in
     record { wrote = text.0; input_len_bound = text.1 }

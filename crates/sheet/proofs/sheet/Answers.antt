@@ -4,4 +4,4 @@ use Rattle.pen.proofs.Writing.{printed}
 use Rattle.sheet.proofs.sheet.Goals as goal
 
 pub returns : goal.returns
-returns c = printed _ _ _ _ (omega (arith, c.print_input-end.ensures.input_len_bound)) c.print_input-end.ensures.wrote
+returns c = printed _ _ _ _ (omega (arith, c.print_input.ensures.input_len_bound)) c.print_input.ensures.wrote

@@ -8,5 +8,5 @@ pub returns-then-page-lt-LONGEST_TEXT : goal.returns-then-page-lt-LONGEST_TEXT
 returns-then-page-lt-LONGEST_TEXT c = page_short _ _ (omega arith)
 
 pub returns : goal.returns
-returns c = let text = c.print_input-end.ensures in
+returns c = let text = c.print_input.ensures in
     page_long _ _ (omega arith) _ _ (printed _ _ _ _ (omega (arith, text.input_len_bound)) text.wrote)

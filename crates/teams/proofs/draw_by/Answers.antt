@@ -1,13 +1,16 @@
--- `teams::draw_by` meets its contract: the refusal of the figures, or the own bits marked at their interval. Assumes nothing.
+-- The refusal of the figures, or the own bits marked at their interval.
+use Rattle.std.proofs.lemmas.Result.{err_from_is_err_and}
 use Rattle.draw.proofs.Answer.{draw_same}
 use Rattle.teams.proofs.Answer.{own_refused, own_drawn}
 use Rattle.teams.proofs.draw_by.Goals as goal
 
-pub mark_drawn-drawn-requires : goal.mark_drawn-drawn-requires
-mark_drawn-drawn-requires c = search draw_same
+pub returns-in_err-figures : goal.returns-in_err-figures
+returns-in_err-figures c =
+    let p = err_from_is_err_and c.from_residual.result c.from_residual.ensures.1 in
+    rw (p.1, p.2) (own_refused c.in_err-figures.ensures)
 
-pub returns-in-Refused : goal.returns-in-Refused
-returns-in-Refused c = search own_refused
+pub mark_drawn-requires : goal.mark_drawn-requires
+mark_drawn-requires c = draw_same c.in_ok-figures.ensures
 
-pub returns-in-Split : goal.returns-in-Split
-returns-in-Split c = search own_drawn
+pub returns : goal.returns
+returns c = own_drawn c.in_ok-figures.ensures c.mark_drawn.ensures

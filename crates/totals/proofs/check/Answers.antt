@@ -1,20 +1,14 @@
--- `totals::check` meets its contract: the shape, the lines in use, then the figures. Assumes nothing.
+-- `totals::check` meets its contract: the lines in use, then the figures. Assumes nothing.
 use borrow.Author.Rules.{rules}
-use Rattle.totals.proofs.Shapes.{part_lines}
-use Rattle.totals.proofs.Operations.{check_refused, check_line, fillable, check_done}
+use Rattle.totals.proofs.Shapes.{lines_long}
+use Rattle.totals.proofs.Operations.{fillable, check_done}
 use Rattle.totals.proofs.check.Goals as goal
 
 pub slice_bounds-lines-end : goal.slice_bounds-lines-end
-slice_bounds-lines-end c = search part_lines
+slice_bounds-lines-end c = lines_long _ _ _ _ _ c.in_ok-many.ensures
 
-pub compare-requires : goal.compare-requires
-compare-requires c = search (fillable, rules)
+pub first_wrong-requires : goal.first_wrong-requires
+first_wrong-requires c = fillable _ _ _ _ c.in_ok-many.ensures _ c.in_ok-total.ensures (search rules)
 
-pub returns-in-Refused : goal.returns-in-Refused
-returns-in-Refused c = search check_refused
-
-pub returns-in-Refused-judge_lines : goal.returns-in-Refused-judge_lines
-returns-in-Refused-judge_lines c = search check_line
-
-pub returns-in-Total : goal.returns-in-Total
-returns-in-Total c = search check_done
+pub returns : goal.returns
+returns c = check_done _ _ _ _ c.in_ok-many.ensures _ c.in_ok-total.ensures c.first_wrong.ensures

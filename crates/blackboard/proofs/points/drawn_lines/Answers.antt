@@ -1,19 +1,12 @@
--- `blackboard::points::drawn_lines` meets its contract. The invariant: those counted and those to come are all. The measure is what is left of the length. Assumes nothing.
-use native.Mathlib.Omega.{arith}
-use Rattle.blackboard.proofs.Drawn.{drawn_none, drawn_one, drawn_other, drawn_end}
+-- A mark more, by whether it is 1.
+use Rattle.std.proofs.Common.{arith}
+use Rattle.blackboard.proofs.Drawn.{drawn_one, drawn_other, drawn_end}
 use Rattle.blackboard.proofs.points.drawn_lines.Goals as goal
-use Rattle.blackboard.proofs.points.drawn_lines.Goals.{else-marks-item-eq1, then-marks-item-eq1}
+use Rattle.blackboard.proofs.points.drawn_lines.Goals.{else-mark-eq1, then-mark-eq1}
 
-pub loop-item-init : goal.loop-item-init
-loop-item-init c = drawn_none _
-
-pub bounds-marks-item : goal.bounds-marks-item
-bounds-marks-item c = omega arith
-
-pub loop-item-preserved : goal.loop-item-preserved
-loop-item-preserved c = let at = c.loop-item.invariant in
-    let more = c.loop-item-test.true in
-    elim c.if-marks-item-eq1.branch [ then-marks-item-eq1 w ↦ drawn_one at more w.if-marks-item-eq1.true {drawn' = c.if-marks-item-eq1.drawn} w.drawn-is | else-marks-item-eq1 w ↦ drawn_other at more w.if-marks-item-eq1.false {drawn' = c.if-marks-item-eq1.drawn} w.drawn-is ]
+pub loop-mark-preserved : goal.loop-mark-preserved
+loop-mark-preserved c = let at = c.loop-mark.invariant in
+    elim c.if-mark-eq1.branch [ then-mark-eq1 w ↦ drawn_one at (omega arith) w.if-mark-eq1.true {drawn' = c.if-mark-eq1.drawn} w.drawn-is | else-mark-eq1 w ↦ drawn_other at (omega arith) w.if-mark-eq1.false {drawn' = c.if-mark-eq1.drawn} w.drawn-is ]
 
 pub returns : goal.returns
-returns c = search drawn_end
+returns c = drawn_end c.loop-mark.invariant (omega arith)

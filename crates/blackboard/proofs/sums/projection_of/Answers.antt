@@ -1,12 +1,9 @@
--- `blackboard::sums::projection_of` meets its contract: the sums of a kind, added, are an amount with a sign. Assumes nothing.
-use Rattle.blackboard.proofs.OneLine.{sums_fit, is_projection}
+-- The sums of a kind, added, are an amount with a sign.
+use Rattle.blackboard.proofs.OneLine.{sums_fit}
 use Rattle.blackboard.proofs.sums.projection_of.Goals as goal
 
-pub overflow_add-upper : goal.overflow_add-upper
-overflow_add-upper c = search sums_fit
+pub overflow_add-over : goal.overflow_add-over
+overflow_add-over c = search sums_fit
 
-pub overflow_add-lower : goal.overflow_add-lower
-overflow_add-lower c = search sums_fit
-
-pub returns : goal.returns
-returns c = is_projection _ c.args.under _ c.net_of-net.type_inv c.net_of-net.ensures
+pub overflow_add-under : goal.overflow_add-under
+overflow_add-under c = search sums_fit

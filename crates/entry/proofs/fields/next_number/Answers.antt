@@ -1,13 +1,9 @@
--- `entry::fields::next_number` meets its contract: the blanks are passed, then the field. Assumes nothing.
-use borrow.Author.Rules.{rules}
-use Rattle.entry.proofs.Lines.{number_missing, number_wrong, number_read}
+-- `entry::fields::next_number` meets its contract: what is wrong with the field is wrong with the line. Assumes nothing.
+use Rattle.std.proofs.lemmas.Result.{err_from_is_err_and}
+use Rattle.entry.proofs.Lines.{number_wrong}
 use Rattle.entry.proofs.fields.next_number.Goals as goal
 
-pub returns-then-from-line : goal.returns-then-from-line
-returns-then-from-line c = search (rules, number_missing)
-
-pub returns-in-NoNumber : goal.returns-in-NoNumber
-returns-in-NoNumber c = search (rules, number_wrong)
-
-pub returns-in-Number : goal.returns-in-Number
-returns-in-Number c = search (rules, number_read)
+pub returns-in_err-value : goal.returns-in_err-value
+returns-in_err-value c =
+    let p = err_from_is_err_and c.from_residual.result c.from_residual.ensures.1 in
+    rw (p.1, p.2) (number_wrong c.reach-from.ensures c.if-from-line.false c.reach-to.ensures c.in_err-value.ensures)

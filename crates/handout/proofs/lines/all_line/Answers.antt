@@ -1,4 +1,4 @@
--- `handout::lines::all_line` meets its contract: its parts, one after the other. Assumes nothing.
+-- Its parts, one after the other.
 use borrow.Author.Rules.{rules}
 use Rattle.handout.proofs.Written.{all_written}
 use Rattle.handout.proofs.Short.{all_short}

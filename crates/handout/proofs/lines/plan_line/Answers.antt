@@ -1,4 +1,4 @@
--- `handout::lines::plan_line` meets its contract. Assumes nothing.
+-- It is short.
 use borrow.Author.Rules.{rules}
 use Rattle.handout.proofs.Short.{plan_short}
 use Rattle.handout.proofs.lines.plan_line.Goals as goal

@@ -1,4 +1,4 @@
--- `handout::lines::stratum_line` meets its contract. Assumes nothing.
+-- Its figures are small, so it is short.
 use borrow.Author.Rules.{rules}
 use Rattle.handout.proofs.Written.{stratum_written}
 use Rattle.handout.proofs.Short.{SmallRow, stratum_short}

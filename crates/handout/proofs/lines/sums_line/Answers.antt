@@ -1,4 +1,4 @@
--- `handout::lines::sums_line` meets its contract. Assumes nothing.
+-- Its figures are small, so it is short.
 use borrow.Author.Rules.{rules}
 use Rattle.handout.proofs.Short.{SmallSums, sums_short}
 use Rattle.handout.proofs.lines.sums_line.Goals as goal

@@ -1,12 +1,9 @@
--- `handout::lines::sums_lines` meets its contract. The measure is what is left of the strata. Assumes nothing.
-use Rattle.handout.proofs.Loops.{summing_none, sums_inside, summing_more, summing_all, summing_short}
+-- Each turn is a law of the sums so far.
+use Rattle.handout.proofs.Loops.{summing_none, summing_more, summing_all, summing_short}
 use Rattle.handout.proofs.lines.sums_lines.Goals as goal
 
 pub loop-h-init : goal.loop-h-init
 loop-h-init c = search summing_none
-
-pub bounds-rows-h : goal.bounds-rows-h
-bounds-rows-h c = search sums_inside
 
 pub loop-h-preserved : goal.loop-h-preserved
 loop-h-preserved c = search summing_more

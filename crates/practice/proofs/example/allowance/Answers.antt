@@ -8,5 +8,5 @@ use Rattle.practice.proofs.example.allowance.Goals as goal
 fits : (step projected : ℕ) → step < 1000 → projected ≤ 4000000000 → step * projected ≤ 1000 * 4000000000
 fits step projected s p = mul-le-mul {n₂ = 1000} {m₂ = 4000000000} (omega arith) p
 
-pub overflow_mul-step : goal.overflow_mul-step
-overflow_mul-step c = omega (arith, fits c.step_of-step.result c.args.projected (search rules) (search rules))
+pub overflow_mul-step_of : goal.overflow_mul-step_of
+overflow_mul-step_of c = omega (arith, fits c.step_of.result c.args.projected (search rules) (search rules))

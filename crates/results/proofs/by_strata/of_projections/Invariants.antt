@@ -1,11 +1,7 @@
--- `results::by_strata::of_projections` meets its contract. The measure is what is left of the rows. Assumes nothing.
-use Prim.Native.Nat.{◌-◌}
+-- The rows before h are shown.
 use Rattle.results.specs.Strata.{stratum_projection_seen}
 use Rattle.results.proofs.Rows.{Showing}
 use Rattle.results.proofs.by_strata.of_projections.Given as goal
 
 abbrev pub invariant-loop-h : goal.invariant-loop-h
-invariant-loop-h l = Showing stratum_projection_seen l.rows l.stratum l.h
-
-abbrev pub decreases-loop-h : goal.decreases-loop-h
-decreases-loop-h l = 32 - l.h
+invariant-loop-h l = Showing stratum_projection_seen l.row-items l.shown l.h

@@ -1,15 +1,15 @@
--- `season::Tally::count` meets its contract: a cell is a place of the counts. Assumes nothing.
-use borrow.Author.Rules.{rules}
+-- A cell is a place of the counts.
+use Rattle.std.proofs.Common.{rules}
 use Rattle.season.proofs.Cells.{cell_fits, read_there}
 use Rattle.season.proofs.Tally.count.Goals as goal
 
 ruleset fits = (rules, cell_fits)
 
-pub bounds-self-at : goal.bounds-self-at
-bounds-self-at c = search fits
+pub bounds-self-cell : goal.bounds-self-cell
+bounds-self-cell c = search fits
 
-pub offset_bounds-self-at : goal.offset_bounds-self-at
-offset_bounds-self-at c = search fits
+pub offset_bounds-self-cell : goal.offset_bounds-self-cell
+offset_bounds-self-cell c = search fits
 
 pub returns : goal.returns
 returns c = search read_there

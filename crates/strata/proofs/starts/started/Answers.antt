@@ -1,15 +1,15 @@
--- `strata::starts::started` meets its contract: the refusal of the plan, 11, or the plan. Assumes nothing.
-use Rattle.strata.proofs.Starting.{plan_refused, starts_few, start_refused, starts_good}
+-- The refusal of the plan, 11, or the plan.
+use Rattle.std.proofs.lemmas.Result.{err_from_is_err_and}
+use Rattle.strata.proofs.Starting.{starts_few, start_refused, starts_good}
 use Rattle.strata.proofs.starts.started.Goals as goal
 
 pub starts_fit-requires : goal.starts_fit-requires
-starts_fit-requires c = search starts_few
+starts_fit-requires c = starts_few _ _ _ _ _ c.lengths_agree-same.ensures c.in_ok-plan.ensures
 
-pub returns-in-Refused : goal.returns-in-Refused
-returns-in-Refused c = search plan_refused
+pub returns-in_err-starts_fit : goal.returns-in_err-starts_fit
+returns-in_err-starts_fit c =
+    let p = err_from_is_err_and c.from_residual-in_err-starts_fit.result c.from_residual-in_err-starts_fit.ensures.1 in
+    rw (p.1, p.2) (start_refused _ _ _ _ _ c.lengths_agree-same.ensures c.in_ok-plan.ensures _ c.in_err-starts_fit.ensures)
 
-pub returns-in-Refused-starts_fit : goal.returns-in-Refused-starts_fit
-returns-in-Refused-starts_fit c = search start_refused
-
-pub returns-in-Strata-starts_fit : goal.returns-in-Strata-starts_fit
-returns-in-Strata-starts_fit c = search starts_good
+pub returns : goal.returns
+returns c = starts_good _ _ _ _ _ c.lengths_agree-same.ensures c.in_ok-plan.ensures c.in_ok-starts_fit.ensures

@@ -1,31 +1,21 @@
--- `stratified::projection::project_rows` meets its contract. The measure is what is left of the counts. Assumes nothing.
-use Rattle.strata.proofs.Pieces.{reach, to_fits}
-use Rattle.stratified.proofs.Walking.{walking_none, errors_far, start_within, walking_asks, walking_refused, walking_next, walking_end}
+-- Each turn is a law of the walk so far.
+use Rattle.std.proofs.lemmas.Result.{err_from_is_err_and}
+use Rattle.stratified.proofs.Walking.{walking_none, walking_asks, walking_refused, walking_next, walking_end}
 use Rattle.stratified.proofs.projection.project_rows.Goals as goal
 
 pub loop-h-init : goal.loop-h-init
-loop-h-init c = search walking_none
+loop-h-init c = walking_none c.requires
 
-pub overflow_add-to : goal.overflow_add-to
-overflow_add-to c = search to_fits
+pub invariant_of-entered : goal.invariant_of-entered
+invariant_of-entered c = record { ready = walking_asks c.loop-h.invariant c.loop-h-test.true }
 
-pub bounds-starts-h : goal.bounds-starts-h
-bounds-starts-h c = search start_within
-
-pub slice_bounds-project_part-end : goal.slice_bounds-project_part-end
-slice_bounds-project_part-end c = search reach
-
-pub slice_bounds-project_part-end-in-loop-h : goal.slice_bounds-project_part-end-in-loop-h
-slice_bounds-project_part-end-in-loop-h c = search errors_far
-
-pub project_part-requires : goal.project_part-requires
-project_part-requires c = walking_asks c.loop-h.invariant c.loop-h-test.true
-
-pub returns-in-Refused : goal.returns-in-Refused
-returns-in-Refused c = search walking_refused
+pub returns-in_err-sums : goal.returns-in_err-sums
+returns-in_err-sums c =
+    let p = err_from_is_err_and c.from_residual.result c.from_residual.ensures.1 in
+    rw (p.1, p.2) (walking_refused c.loop-h.invariant c.loop-h-test.true _ c.in_err-sums.ensures.answer)
 
 pub loop-h-preserved : goal.loop-h-preserved
-loop-h-preserved c = walking_next c.loop-h.invariant c.loop-h-test.true _ c.project_part.ensures c.in-Projected.is c.row_with.ensures
+loop-h-preserved c = walking_next c.loop-h.invariant c.loop-h-test.true c.in_ok-sums.ensures.answer c.row_with.ensures
 
 pub returns : goal.returns
 returns c = search walking_end

@@ -1,10 +1,6 @@
--- `stratified::totals::totals_of` meets its contract. The measure is what is left of the strata. Assumes nothing.
-use Prim.Native.Nat.{◌-◌}
+-- The rows before the one at hand are added.
 use Rattle.stratified.proofs.Totalling.{Totalling}
 use Rattle.stratified.proofs.totals.totals_of.Given as goal
 
-abbrev pub invariant-loop-h : goal.invariant-loop-h
-invariant-loop-h l = Totalling l.rows l.over l.under l.h
-
-abbrev pub decreases-loop-h : goal.decreases-loop-h
-decreases-loop-h l = 32 - l.h
+abbrev pub invariant-loop-row : goal.invariant-loop-row
+invariant-loop-row l = Totalling l.fn.rows l.over l.under l.row-index

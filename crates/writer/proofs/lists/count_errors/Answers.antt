@@ -1,11 +1,11 @@
--- `writer::lists::count_errors` meets its contract. The invariant: the count and the number of what is left are the number. Assumes nothing.
+-- One turn of the loop, by the test of the size. Assumes nothing.
 use borrow.Author.Rules.{rules}
 use Rattle.writer.proofs.Rows.{count_one, count_none, count_done}
 use Rattle.writer.proofs.lists.count_errors.Goals as goal
-use Rattle.writer.proofs.lists.count_errors.Goals.{else-size_of-gt0, then-size_of-gt0}
+use Rattle.writer.proofs.lists.count_errors.Goals.{then-size_of-ne0, else-size_of-ne0}
 
-pub loop-line-preserved : goal.loop-line-preserved
-loop-line-preserved c = elim c.if-size_of-gt0.branch [ then-size_of-gt0 w ↦ rw w.count-is (search (rules, count_one)) | else-size_of-gt0 w ↦ rw w.count-is (search (rules, count_none)) ]
+pub loop-error-preserved : goal.loop-error-preserved
+loop-error-preserved c = elim c.if-size_of-ne0.branch [ then-size_of-ne0 w ↦ rw w.count-is (search (rules, count_one)) | else-size_of-ne0 w ↦ rw w.count-is (search (rules, count_none)) ]
 
 pub returns : goal.returns
 returns c = search (rules, count_done)

@@ -1,11 +1,6 @@
--- `writer::lists::put_list` meets its contract. The invariant: the rows from `i` on are left to lay. Assumes nothing.
-use Prim.Native.Nat.{◌-◌}
-use lib.ListN.{length}
+-- `writer::lists::put_list` meets its contract. The invariant: what is left to lay. Assumes nothing.
 use Rattle.writer.proofs.Rows.{RowsLeft}
 use Rattle.writer.proofs.lists.put_list.Given as goal
 
-abbrev pub invariant-loop-i : goal.invariant-loop-i
-invariant-loop-i l = RowsLeft l.initial.file l.at l.kind l.list l.file l.i l.to
-
-abbrev pub decreases-loop-i : goal.decreases-loop-i
-decreases-loop-i l = length l.list - l.i
+abbrev pub invariant-loop-number : goal.invariant-loop-number
+invariant-loop-number l = RowsLeft l.initial.file l.at l.kind l.list l.file l.number-index l.to

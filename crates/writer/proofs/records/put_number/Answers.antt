@@ -1,13 +1,7 @@
--- `writer::records::put_number` meets its contract. The invariant: the bytes of `rest` are left to lay. The measure is their number. Assumes nothing.
-use borrow.Author.Rules.{rules}
-use Rattle.writer.proofs.Laying.{digits_start, digits_on, digits_done}
+-- `writer::records::put_number` meets its contract: the lowest bytes of the number are those that are copied. Assumes nothing.
+use native.Mathlib.Omega.{arith}
+use Rattle.writer.proofs.Laying.{number_laid}
 use Rattle.writer.proofs.records.put_number.Goals as goal
 
-pub loop-left-init : goal.loop-left-init
-loop-left-init c = search digits_start
-
-pub loop-left-preserved : goal.loop-left-preserved
-loop-left-preserved c = search (rules, digits_on)
-
 pub returns : goal.returns
-returns c = search (rules, digits_done)
+returns c = number_laid c.args.file.now c.args.at c.args.count c.args.number (omega arith) (omega arith) (omega arith) c.to_le_bytes.ensures c.copy_from_slice.ensures.after

@@ -1,5 +1,0 @@
--- `mus::by_strata::mus_strata_project` meets its contract: what it returns shows the operation's own answer. Assumes nothing.
-use Rattle.mus.proofs.by_strata.mus_strata_project.Goals as goal
-
-pub returns : goal.returns
-returns c = record { answer = c.project_strata-projected.result; promised = c.project_strata-projected.ensures; shown = c.of_strata_project.ensures }

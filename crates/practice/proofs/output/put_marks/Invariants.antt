@@ -1,9 +1,0 @@
--- `practice::output::put_marks` is safe and ends. The invariant: the page keeps its length. Assumes nothing.
-use Rattle.std.proofs.Common.{length, ◌-◌, ◌≡◌}
-use Rattle.practice.proofs.output.put_marks.Given as goal
-
-abbrev pub invariant-loop-i : goal.invariant-loop-i
-invariant-loop-i l = length l.page ≡ length l.initial.page
-
-abbrev pub decreases-loop-i : goal.decreases-loop-i
-decreases-loop-i l = length l.marks - l.i

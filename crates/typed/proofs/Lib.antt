@@ -1,2 +1,0 @@
--- What callers cite.
-pub mod Reading

@@ -81,7 +81,6 @@ pub fn tally_files(files: &[u8]) -> HandedBack
 {
     let mut tally = Tally::none();
     let mut at: usize = 0;
-    // a true `while`: each file tells where the next begins
     while at < files.len() {
         let First { entry, next } = first_file(&files[at..]);
         let handed = tally.add(entry);

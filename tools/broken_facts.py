@@ -10,12 +10,14 @@ ERROR = re.compile(r"(?P<before>(?:note: )?(?:\./)?)(?P<file>\S+?\.(?:antt|rt)):
 # A path of modules before a name: its last part says enough, and a fact that is known keeps its own path (`c.args.now`).
 PATH = re.compile(r"(?<![\w.·-])[A-Za-z]\w+(?:\.[\w+·-]+)*\.(?=[^\s.`)])")
 
-# What an error says where a fact has no proof. Others are of an edit's form, as a name that is gone, or say only that a search gave up or that an argument is wanted.
+# What an error says where a fact has no proof. Others are of an edit's form, as a name that is gone, or say only that a search gave up, that an argument is wanted
+# or that two types are printed alike.
 FACTS = (
     r"it is not proved that [^;]*\(`[^`]*`\)(?:$|; the facts )",
+    r"`search` found no proof \(`[^`]*`\); the facts known there allow values at which this goal is false",
     r"(?:`[^`]*`: )?no proof of ",
     r"(?:`[^`]*`: )?the (?:goal|part)(?: `[^`]*` of the goal)? (?:fails|does not follow)",
-    r"(?:as printed|computed as far as they go), the two (?:types|sides|values|indices) ",
+    r"(?:as printed|computed as far as they go), the two (?:types|sides|values|indices) (?!are identical\b)",
     r"computed as a goal is, one side reads ",
     r"expected type `[^`]*`(?:,? but\b| \.\.$|$)",
     r"this `[^`]*` lands at index ",

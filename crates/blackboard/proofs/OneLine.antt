@@ -53,6 +53,14 @@ module _ (J item : ℕ) (kinds : BoardKinds) (mark v : ℕ) (e : ℤ) (fits : SF
         let t : ltb 0 (size_of e) ≡ true = lt-ltb 0 (size_of e) (omega (arith, is_size)) in
         sym (simp (within, eq-eqb mark 0 z, t))
 
+    pub line_empty : mark ≡ 0 → size ≤ 0 → accepted kinds ≡ line_added J item kinds mark v e
+    unfolding line_added
+    line_empty z h =
+        let t : ltb 0 (size_of e) ≡ false = le-ltb 0 (size_of e) (omega (arith, is_size)) in
+        let one : mark ≡ 1 → ⊥ = λ q. omega arith in
+        let two : mark ≡ 2 → ⊥ = λ q. omega arith in
+        sym (simp (within, eq-eqb mark 0 z, t, ne_eqb mark 1 one, ne_eqb mark 2 two))
+
     pub over_within : {o : ℕ} → o ≡ overstated (held e) → o ≤ v
     over_within is = omega (arith, is_size, size_adds e, is ∙ ap overstated (kept e fits.sfits))
 

@@ -66,8 +66,11 @@ fn add_line(
     if size > value {
         return Err(Refusal::ErrorAboveValue(item.0 as u64));
     }
-    if mark == 0 && size > 0 {
-        return Err(Refusal::ErrorNotDrawn(item.0 as u64));
+    if mark == 0 {
+        if size > 0 {
+            return Err(Refusal::ErrorNotDrawn(item.0 as u64));
+        }
+        return Ok(kinds);
     }
     let overstated = signed::overstated_of(error);
     let understated = signed::understated_of(error);

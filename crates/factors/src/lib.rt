@@ -97,6 +97,13 @@ impl Level {
     }
 }
 
+// A factor in 64 bits.
+pub fn wide(factor: u16) -> u64
+    ensures { result ≡ factor }
+{
+    factor as u64
+}
+
 // A row of the table, copied.
 fn copied(factors: &[u16]) -> [u16; 64]
     requires { length factors.now ≡ 64 }

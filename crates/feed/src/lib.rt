@@ -5,7 +5,7 @@
 mod bytes; // bytes.rt: the file of a read or a salvage
 pub mod cases; // cases.rt: the next case
 pub mod fields; // fields.rt: the fields of a case
-mod input; // input.rt: a case's bytes and numbers
+pub mod input; // input.rt: a case's bytes and numbers
 pub mod lines; // lines.rt: the line of a case
 mod lists; // lists.rt: lists of a case
 pub mod operations; // operations.rt: the operations and their names

@@ -1,6 +1,7 @@
 -- Files in a row, one after the other: the first file, what is left of the row, and the entries added so far. Assumes nothing.
 use Prim.Native.Nat.{ℕ, zero, suc, ◌+◌, ◌-◌, ◌≤◌, ◌<◌}
-use Rattle.std.specs.Prelude.{Result, Ok, Err, None}
+use Rattle.std.specs.Prelude.{Result, Ok, Err, Some, None}
+use Rattle.std.specs.Result.{result_ok}
 use mathlib.Core.Path.{◌≡◌, refl, sym, ap, ◌∙◌}
 use mathlib.Core.Bool.{true, false}
 use mathlib.Core.List.{List, [], ◌∷◌}
@@ -11,17 +12,26 @@ use lib.Seq.{take_all, drop-drop}
 use Rattle.terms.specs.declared.Refusal.{Refusal}
 use Rattle.terms.specs.Outcome.{accepted, refused_by, after, left, says}
 use Rattle.terms.proofs.Tests.{by_test}
-use Rattle.workfile.specs.declared.{Contents.Contents}
+use Rattle.workfile.specs.declared.{Plan.Plan, Contents.Contents}
 use Rattle.workfile.specs.Promises.{plan_with, Rooms, ReadPromise}
 use Rattle.workfile.proofs.Held.{read_refused, AtRead, decodes}
 use Rattle.reader.specs.declared.Stopped.{Stopped}
 use Rattle.reader.specs.Steps.{stopped_in}
 use Rattle.reader.proofs.Passing.{z_whole}
+use Rattle.steps.specs.declared.Answers.{Answers}
+use Rattle.steps.specs.Steps.{StepsPromise}
 use Rattle.season.specs.declared.{Tally.Tally, HandedBack.HandedBack}
 use Rattle.season.specs.Tally.{Entry, no_tally}
 use Rattle.season.specs.Add.{add_of, AddPromise}
 use Rattle.filing.specs.declared.First.{First}
-use Rattle.filing.specs.Filing.{content_entry, read_entry, file_entry, first_of, entries_in, entries_of, add_all, files_of}
+use Rattle.filing.specs.Filing.{entry_by, content_entry, read_entry, file_entry, first_of, entries_in, entries_of, add_all, files_of}
+
+-- what the steps answered of a content, as it is added
+pub content_judged : (plan : Plan) (words ledger : List ℕ) (errors : List ℤ) (r : Result Answers Refusal) (a : Answers) → StepsPromise plan words ledger errors r → result_ok r ≡ Some a →
+    Some (record { level = a.planned.level; book = a.planned.total; limit = a.judgement.upper_limit; verdict = a.judgement.verdict }) ≡ content_entry plan words ledger errors
+unfolding content_entry
+content_judged plan words ledger errors (Ok b) a p is = let same : b ≡ a = cc in sym (ap entry_by (sym p.answer) ∙ ap (λ (x : Answers). entry_by (accepted x)) same)
+content_judged plan words ledger errors (Err why) a p is = let z : ◌≡◌ {A = ℕ} 0 1 = cc in absurd (omega arith)
 
 -- what was read of a file
 pub file_refused : {file w v w' v' : List ℕ} {e e' : List ℤ} {r : Result Contents Refusal} → Rooms w v e → ReadPromise file w v e r w' v' e' → (why : Refusal) → r ≡ Err why → None ≡ file_entry file

@@ -1,15 +1,16 @@
 -- The rules of one finding: the lengths, and the line on which it may stand, as the code meets them and what they come to. Assumes nothing.
 use Prim.Native.Nat.{ℕ, ◌^◌, ◌≤◌, ◌<◌}
-use Rattle.std.specs.Prelude.{Ok}
+use Rattle.std.specs.Prelude.{Ok, Err}
 use mathlib.Core.Path.{◌≡◌, refl, sym, ap, ◌∙◌}
 use mathlib.Core.Bool.{Bool, true, false, not}
 use mathlib.Core.List.{List}
 use native.Mathlib.Omega.{arith}
-use borrow.Author.Tests.{ltb-false, leb-false, eqb-true, le-ltb, lt-leb, eq-eqb, not-false}
+use borrow.Author.Tests.{ltb-false, leb-false, eqb-true, le-ltb, le-leb, lt-leb, eq-eqb, not-false}
 use lib.Dec.{eqb, leb, ltb}
 use lib.IntN.{ℤ}
 use lib.ListN.{length, get_or}
 use lib.Signed.{mag}
+use Rattle.terms.specs.declared.Refusal.TheVariants.{LineNotThere, ErrorNotDrawn}
 use Rattle.terms.specs.Outcome.{Outcome, accepted, says}
 use Rattle.terms.proofs.Tests.{by_test}
 use Rattle.terms.proofs.Outcomes.{never}
@@ -80,9 +81,22 @@ module _ (ledger marks : List ℕ) (line : ℕ) (error : ℤ) where
       (λ u. by_test (λ (o : Outcome ℕ). placed_at 0 o ≡ o) (misplaced (get_or marks line 0) (size_of error)) (λ v. refl) (λ v. refl)))
 
   -- as `line_of` meets it, with the error read from its bits
-  pub line_passes : (position : ℕ) → line < length ledger → mag error < 2 ^ 63 → {size : ℕ} → size ≡ size_of (held error) → size ≤ get_or ledger line 0 →
-      {b : Bool} → b ≡ misplaced (get_or marks line 0) size → b ≡ false → says (Ok line) ≡ placed_at position (line_of ledger marks line error)
-  line_passes position inside fits {size} told within is t =
-      let size_is : size ≡ size_of error = size_read error fits told in
-      let marked : misplaced (get_or marks line 0) (size_of error) ≡ false = sym (ap (misplaced (get_or marks line 0)) size_is) ∙ sym is ∙ t in
-      sym (ap (placed_at position) (line_stands (record { inside = inside; within = omega (arith, size_is); marked = marked })))
+  module _ (position : ℕ) where
+    pub line_not_there : length ledger ≤ line → says {A = ℕ} (Err (LineNotThere position)) ≡ placed_at position (line_of ledger marks line error)
+    unfolding line_of
+    line_not_there h = sym (simp (le-leb _ _ h))
+
+    module _ (inside : line < length ledger) (fits : mag error < 2 ^ 63) {size : ℕ} (told : size ≡ size_of (held error)) (within : size ≤ get_or ledger line 0) {b : Bool}
+        (is : b ≡ misplaced (get_or marks line 0) size) where
+      size_is : size ≡ size_of error
+      size_is = size_read error fits told
+
+      marked : {c : Bool} → b ≡ c → misplaced (get_or marks line 0) (size_of error) ≡ c
+      marked t = sym (ap (misplaced (get_or marks line 0)) size_is) ∙ sym is ∙ t
+
+      pub line_not_drawn : b ≡ true → says {A = ℕ} (Err (ErrorNotDrawn position)) ≡ placed_at position (line_of ledger marks line error)
+      unfolding line_of
+      line_not_drawn t = sym (simp (lt-leb _ _ inside, le-ltb (get_or ledger line 0) (size_of error) (omega (arith, size_is)), marked t))
+
+      pub line_passes : b ≡ false → says (Ok line) ≡ placed_at position (line_of ledger marks line error)
+      line_passes t = sym (ap (placed_at position) (line_stands (record { inside = inside; within = omega (arith, size_is); marked = marked t })))

@@ -1,16 +1,16 @@
 -- The cases of `running_from`, as the loop over the lines meets them, and the refusals before it. Assumes nothing.
-use mathlib.Core.Path.{◌≡◌, refl, sym, ◌∙◌}
-use mathlib.Core.Bool.{Bool, true, not}
+use mathlib.Core.Path.{◌≡◌, refl, sym, ap, ◌∙◌}
+use mathlib.Core.Bool.{Bool, true, false, not}
 use mathlib.Core.List.{List}
 use Prim.Native.Nat.{ℕ, ◌+◌, ◌≤◌, ◌<◌}
 use native.Mathlib.Numerals.{add-one}
 use native.Mathlib.Omega.{arith}
 use lib.ListN.{length, get_or, drop, drop_of_length-le}
 use lib.Seq.{drop-cons}
-use borrow.Author.Tests.{le-ltb, lt-ltb, not-true}
-use Rattle.terms.specs.Outcome.{accepted, refused}
+use borrow.Author.Tests.{le-ltb, lt-ltb, ne_eqb, not-true, not-false}
+use Rattle.terms.specs.Outcome.{accepted, refused, after}
 use Rattle.terms.specs.Limits.{most_lines, most_value, most_total}
-use Rattle.ledger.specs.Ledger.{running_from, running_total, ledger_with}
+use Rattle.ledger.specs.Ledger.{running_from, running_total, some_total, ledger_with}
 
 -- where `judge_lines` stands before a line: judging on from here gives what judging the whole does
 pub record Judging (l : List ℕ) (running line : ℕ) : Type 0 where
@@ -48,3 +48,8 @@ module _ (l : List ℕ) (same : Bool) where
   pub lengths_differ : length l ≤ most_lines → not same ≡ true → refused 13 0 ≡ ledger_with l same
   unfolding ledger_with
   lengths_differ few e = sym (simp (le-ltb _ _ few, not-true same e))
+
+  -- and the lines' total, which is not 0
+  pub total_is : {total : ℕ} → length l ≤ most_lines → not same ≡ false → accepted total ≡ running_total l → (total ≡ 0 → ⊥) → accepted total ≡ ledger_with l same
+  unfolding ledger_with
+  total_is few agree judged some = sym (simp (le-ltb _ _ few, not-false same agree) (ap (after some_total) (sym judged) ∙ simp (ne_eqb _ _ some)))

@@ -30,7 +30,14 @@ module _ (ledger : List ℕ) (n start : ℕ) (errors : List ℤ) (beside : ℕ) 
   unfolding project_lines_of
   projection_from e = ap (after (projected_by ledger start errors)) e
 
--- where the figures for the start are accepted
+-- where the figures for the start are refused
+module _ (ledger : List ℕ) (n start : ℕ) (errors amounts : List ℤ) (beside : ℕ) (is : beside ≡ length_beside (length ledger) (length errors) (length amounts)) where
+  pub lines_not_started : (why : Refusal) → refused_by why ≡ figures_for ledger n start beside → LinesPromise ledger n start errors amounts (Err why) amounts
+  lines_not_started why told =
+      let e : refused_by why ≡ figures_for ledger n start (length_beside (length ledger) (length errors) (length amounts)) = told ∙ ap (figures_for ledger n start) is in
+      record { answer = projection_from ledger n start errors _ e; amounts_left = ap (left (amounts_with errors) amounts) (lines_from_lem ledger n start errors _ e) }
+
+-- where they are accepted
 module _ (ledger : List ℕ) (n start : ℕ) (errors amounts : List ℤ) (beside : ℕ) (f : Figures) (is : beside ≡ length_beside (length ledger) (length errors) (length amounts))
     (told : accepted f ≡ figures_for ledger n start beside) where
   figures_are : accepted f ≡ figures_for ledger n start (length_beside (length ledger) (length errors) (length amounts))

@@ -1,10 +1,13 @@
 -- The judgement of a record from the rules as facts, and what each judgement says of the record. Assumes nothing.
-use Prim.Native.Nat.{ℕ, ◌+◌, ◌<◌}
+use Prim.Native.Nat.{ℕ, ◌+◌, ◌≤◌, ◌<◌}
 use mathlib.Core.Path.{◌≡◌, ap, sym, ◌∙◌}
 use mathlib.Core.Bool.{Bool, true, false}
 use native.Mathlib.Omega.{arith}
+use lib.Dec.{leb}
+use borrow.Author.Tests.{le-leb, lt-ltb}
 use Rattle.terms.specs.Numbers.{pick}
 use Rattle.terms.proofs.Tests.{by_test}
+use Rattle.signed.specs.Errors.{most_size}
 use Rattle.workfile.specs.Content.{sum_bound}
 use Rattle.workfile.specs.Decode.{size, is_end, fits}
 use Rattle.workfile.specs.declared.Tally.{Tally}
@@ -13,6 +16,11 @@ use Rattle.workfile.specs.declared.FileRecord.TheVariants.{Word, Value, ErrorOf,
 use Rattle.workfile.proofs.Rules.{rule, fitted}
 use Rattle.records.specs.Judging.{tallied, Allowed, judged}
 use Rattle.records.specs.declared.Judged.TheVariants.{Next, Last, Bad}
+
+-- the last test of an error, which the others let through: its size against its kind's
+pub size_tested : (t : Tally) {r : FileRecord} {u : Bool} {l n most : ℕ} → r ≡ ErrorOf u l n → t.next_line ≤ l → l < t.lines → 0 < n → most ≡ most_size u → leb n most ≡ fits t r
+unfolding fits
+size_tested t known rising below some is = rw (known, le-leb _ _ rising, lt-ltb _ _ below, lt-ltb _ _ some, is)
 
 -- the judgement, from the test
 pub tested : {t : Tally} {r : FileRecord} {b : Bool} → b ≡ fits t r → b ≡ true → Allowed t r

@@ -2,4 +2,5 @@
 pub mod Refused
 pub mod Handed
 mod Rows
+mod Shown
 pub mod Worked

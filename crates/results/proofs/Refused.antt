@@ -6,17 +6,17 @@ use mathlib.Core.List.{List}
 use Prim.Native.Nat.{ℕ, ◌≤◌, ◌<◌}
 use native.Mathlib.Omega.{arith}
 use Rattle.terms.specs.declared.Refusal.{Refusal}
-use Rattle.terms.specs.Outcome.{Outcome, refused_by, says}
+use Rattle.terms.specs.Outcome.{refused_by, says}
 use Rattle.terms.proofs.Outcomes.{number_some}
 use Rattle.split.specs.declared.{Figures.Figures}
 use Rattle.split.specs.Split.{KeepsDraw, SplitPromise}
 use Rattle.results.specs.declared.SplitResult.{SplitResult}
-use Rattle.results.specs.Seen.{number_seen, Sees}
+use Rattle.results.specs.Seen.{number_seen, Shows, Sees}
 use Rattle.results.specs.Results.{split_seen}
 
 -- where a promise says which outcome it is, the result shows this outcome
-pub as_promised : {A R : Type 0} (sees : Outcome A → R) {Promise : Result A Refusal → Type 0} {r : R} {o : Outcome A} → ((a : Result A Refusal) → Promise a → says a ≡ o) → Sees sees Promise r → r ≡ sees o
-as_promised sees fixed s = s.shown ∙ ap sees (fixed s.answer s.promised)
+pub as_promised : {A O R : Type 0} (shows : O → R) (tells : A → O) {Promise : A → Type 0} {r : R} {o : O} → ((a : A) → Promise a → tells a ≡ o) → Shows (λ a. shows (tells a)) Promise r → r ≡ shows o
+as_promised shows tells fixed s = s.shown ∙ ap shows (fixed s.answer s.promised)
 
 pub refusal_seen : (A : Type 0) (why : Refusal) → 0 < number_seen (refused_by {A = A} why)
 refusal_seen A why = number_some why

@@ -28,7 +28,7 @@ leads_first : (limit book l b : ℕ) → b ≡ 0 → true ≡ leads_of limit boo
 unfolding leads_of
 leads_first limit book l b e = simp (eq-eqb b 0 e)
 
-leads_later : (limit book l b : ℕ) {r : Bool} → (b ≡ 0 → ⊥) → r ≡ exceeds limit book l b → r ≡ leads_of limit book l b
+pub leads_later : (limit book l b : ℕ) {r : Bool} → (b ≡ 0 → ⊥) → r ≡ exceeds limit book l b → r ≡ leads_of limit book l b
 unfolding leads_of
 leads_later limit book l b w e = simp (ne_eqb b 0 w, e)
 

@@ -89,10 +89,11 @@ fn mark_drawn(bits: Bits, ledger: &[u64], interval: u64, start: Cent, marks: &mu
     let mut next = Ahead(start.0);
     let mut drawn: u64 = 0;
     for (line, value) in ledger.iter().enumerate() {
-        let mark = mark_of(*value, interval, next);
+        let value = *value;
+        let mark = mark_of(value, interval, next);
         marks[line] = bits.with_own(marks[line], mark);
         drawn += one_drawn(mark);
-        next = walk::step_over(*value, interval, next);
+        next = walk::step_over(value, interval, next);
     }
     drawn
 }

@@ -5,7 +5,7 @@ use mathlib.Core.List.{List}
 use native.Mathlib.Omega.{arith}
 use borrow.Author.Tests.{ltb-false, eqb-true, le-ltb, eq-eqb}
 use lib.Dec.{ltb, eqb}
-use lib.ListN.{length, take, length-take}
+use lib.ListN.{length, take}
 use lib.Seq.{length-take-le}
 use Rattle.terms.specs.Outcome.{accepted}
 use Rattle.terms.specs.Numbers.{div_up}
@@ -61,5 +61,6 @@ module _ (most count many beside : ℕ) (room : List ℕ) (shape : accepted many
   pub lines_long : count ≡ length (take count room)
   lines_long = sym (length-take-le count room (judged_shape shape).inside)
 
-  pub figures_few : (summary : List ℕ) → length room < 2 ^ 64 → length (take many summary) ≤ 2 ^ 56
-  figures_few summary wide = omega (arith, length-take many summary, (judged_shape shape).are, blocks_few (length room) wide)
+  -- the blocks' figures, or fewer of them
+  pub figures_few : (long : ℕ) → length room < 2 ^ 64 → long ≤ many → long ≤ 2 ^ 56
+  figures_few long wide few = omega (arith, (judged_shape shape).are, blocks_few (length room) wide)

@@ -1,4 +1,4 @@
--- The first refusal, more than ten exceptions the last of them, or the bound that the table has.
+-- The first refusal, more than ten exceptions the last of them, or the bound that the table has. Assumes nothing.
 use Rattle.std.proofs.Common.{refl, arith}
 use Rattle.std.proofs.lemmas.Result.{err_from_is_err_and}
 use Rattle.attributes.specs.Table.{bounds}

@@ -1,4 +1,4 @@
--- The first refusal, or the size that table 1 has there.
+-- The first refusal, or the size that table 1 has there. Assumes nothing.
 use Rattle.std.proofs.Common.{refl}
 use Rattle.std.proofs.lemmas.Result.{err_from_is_err_and}
 use Rattle.attributes.specs.Table.{sizes}

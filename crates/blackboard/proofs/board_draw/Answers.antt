@@ -1,4 +1,4 @@
--- The ledger of accepted figures is within the limits, and the marks have its length.
+-- The ledger of accepted figures is within the limits, and the marks have its length. Assumes nothing.
 use Rattle.blackboard.proofs.Answer.{on_board, beside_same}
 use Rattle.blackboard.proofs.board_draw.Goals as goal
 

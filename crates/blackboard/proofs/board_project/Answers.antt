@@ -1,4 +1,4 @@
--- The ledger of accepted figures is within the limits, with the errors beside it.
+-- The ledger of accepted figures is within the limits, with the errors beside it. Assumes nothing.
 use Rattle.blackboard.proofs.Answer.{on_board, to_add}
 use Rattle.blackboard.proofs.board_project.Goals as goal
 

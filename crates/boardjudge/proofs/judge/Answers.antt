@@ -1,4 +1,4 @@
--- What the steps ask follows from the judgement of the ledger and the figures.
+-- What the steps ask follows from the judgement of the ledger and the figures. Assumes nothing.
 use Rattle.split.proofs.Facts.{judged_asked}
 use Rattle.judge.proofs.Answer.{judged_ready}
 use Rattle.boardjudge.proofs.judge.Goals as goal

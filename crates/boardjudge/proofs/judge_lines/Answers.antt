@@ -1,4 +1,4 @@
--- The lines' refusal, or the judgement of their amounts.
+-- The lines' refusal, or the judgement of their amounts. Assumes nothing.
 use Rattle.std.proofs.Common.{rules}
 use Rattle.std.proofs.lemmas.Result.{err_from_is_err_and}
 use Rattle.boardjudge.proofs.Judging.{to_add, board_refused, walkable, board_concludable, board_judged}

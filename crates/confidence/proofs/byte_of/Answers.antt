@@ -1,4 +1,4 @@
--- What is no byte is no level and no tolerance.
+-- What is no byte is no level and no tolerance. Assumes nothing.
 use Rattle.confidence.proofs.Asking.{byte_stands}
 use Rattle.confidence.proofs.byte_of.Goals as goal
 

@@ -1,4 +1,4 @@
--- By all eight bits of the marks.
+-- By all eight bits of the marks. Assumes nothing.
 use Rattle.findings.proofs.Posting.{post_plain}
 use Rattle.findings.proofs.post.Goals as goal
 

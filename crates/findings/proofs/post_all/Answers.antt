@@ -1,4 +1,4 @@
--- By all eight bits of the marks.
+-- By all eight bits of the marks. Assumes nothing.
 use Rattle.findings.proofs.Pairs.{all_plain}
 use Rattle.findings.proofs.post_all.Goals as goal
 

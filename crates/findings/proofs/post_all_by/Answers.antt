@@ -1,4 +1,4 @@
--- The lengths, then the pairs.
+-- The lengths, then the pairs. Assumes nothing.
 use Rattle.bits.proofs.Lists.{bits_length}
 use Rattle.findings.proofs.Pairs.{all_lengths, all_lists, all_postable, all_posted}
 use Rattle.findings.proofs.post_all_by.Goals as goal

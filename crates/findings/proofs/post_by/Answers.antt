@@ -1,4 +1,4 @@
--- The lengths, then the one pair.
+-- The lengths, then the one pair. Assumes nothing.
 use Rattle.bits.proofs.Lists.{bits_length}
 use Rattle.findings.proofs.Posting.{post_lengths, post_single}
 use Rattle.findings.proofs.post_by.Goals as goal

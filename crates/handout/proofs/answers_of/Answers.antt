@@ -1,4 +1,4 @@
--- The refusal of the plan, of the starts or of the projection, or what they answer.
+-- The refusal of the plan, of the starts or of the projection, or what they answer. Assumes nothing.
 use Rattle.std.proofs.lemmas.Result.{err_from_is_err_and}
 use Rattle.handout.proofs.Printing.{plan_refused, planned_few, rows_few, starts_refused, sums_refused, answered}
 use Rattle.handout.proofs.answers_of.Goals as goal

@@ -1,4 +1,4 @@
--- The line of a refusal, or the sheet of what is answered.
+-- The line of a refusal, or the sheet of what is answered. Assumes nothing.
 use mathlib.Core.Path.{sym}
 use Rattle.handout.proofs.Printing.{refused_text, answers_shown, answers_printed}
 use Rattle.handout.proofs.print_handout.Goals as goal

@@ -1,4 +1,4 @@
--- The sums fit, and the verdict is the definition's.
+-- The sums fit, and the verdict is the definition's. Assumes nothing.
 use native.Mathlib.Omega.{arith}
 use Rattle.judge.proofs.Answer.{concludes}
 use Rattle.judge.proofs.conclude.Goals as goal

@@ -1,4 +1,4 @@
--- The amounts so far, with what the lines to come project, are what all lines project.
+-- The amounts so far, with what the lines to come project, are what all lines project. Assumes nothing.
 use Rattle.lines.proofs.Writing.{Written}
 use Rattle.lines.proofs.write_amounts.Given as goal
 

@@ -1,4 +1,4 @@
--- Each answer is a law of `Steps`, at the values of the code.
+-- Each answer is a law of `Steps`, at the values of the code. Assumes nothing.
 use mathlib.Core.Path.{◌∙◌}
 use native.Mathlib.Omega.{arith}
 use borrow.Author.Tests.{eq-eqb, le-ltb}

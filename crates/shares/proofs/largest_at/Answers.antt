@@ -1,4 +1,4 @@
--- The stratum that the branch chose.
+-- The stratum that the branch chose. Assumes nothing.
 use native.Mathlib.Omega.{arith}
 use Rattle.shares.proofs.Loops.{looking_none, looking_takes, looking_keeps}
 use Rattle.shares.proofs.largest_at.Goals as goal

@@ -1,4 +1,4 @@
--- The largest of the remainders so far, beside those to come, gives the largest of all.
+-- The largest of the remainders so far, beside those to come, gives the largest of all. Assumes nothing.
 use Rattle.shares.proofs.Loops.{Looking}
 use Rattle.shares.proofs.largest_at.Given as goal
 

@@ -1,4 +1,4 @@
--- The portion is the definition's.
+-- The portion is the definition's. Assumes nothing.
 use Rattle.shares.proofs.Adding.{portion_is}
 use Rattle.shares.proofs.portion_of.Goals as goal
 

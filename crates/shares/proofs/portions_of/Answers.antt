@@ -1,4 +1,4 @@
--- A portion more is written, and taken from what is left.
+-- A portion more is written, and taken from what is left. Assumes nothing.
 use native.Mathlib.Omega.{arith}
 use Rattle.shares.proofs.Portioning.{portioning_none, portioning_next, portioning_end}
 use Rattle.shares.proofs.portions_of.Goals as goal

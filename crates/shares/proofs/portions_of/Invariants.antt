@@ -1,4 +1,4 @@
--- The portions so far are written, and what is left is what the others take and what is left over.
+-- The portions so far are written, and what is left is what the others take and what is left over. Assumes nothing.
 use Rattle.shares.proofs.Portioning.{Portioning}
 use Rattle.shares.proofs.portions_of.Given as goal
 

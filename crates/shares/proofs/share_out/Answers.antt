@@ -1,4 +1,4 @@
--- What is given out of the portions is the shares.
+-- What is given out of the portions is the shares. Assumes nothing.
 use Rattle.shares.proofs.Portioning.{shared_out}
 use Rattle.shares.proofs.share_out.Goals as goal
 

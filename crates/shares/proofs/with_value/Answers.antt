@@ -1,4 +1,4 @@
--- What passes the test is counted.
+-- What passes the test is counted. Assumes nothing.
 use Rattle.std.proofs.Common.{rules, ◌≡◌, ℕ, nat_lt, count_by, ◌∙◌}
 use Rattle.shares.proofs.Largest.{valued}
 use Rattle.shares.proofs.with_value.Goals as goal

@@ -1,4 +1,4 @@
--- The products fit 64 bits, and the last test says which answer it is; the tests before it the check reads by itself.
+-- The products fit 64 bits, and the last test says which answer it is; the tests before it the check reads by itself. Assumes nothing.
 use Rattle.std.proofs.Common.{arith}
 use Rattle.size.proofs.Order.{wanted_fits, sum_fits, spent, answered, at_level}
 use Rattle.size.proofs.size.Goals as goal

@@ -1,4 +1,4 @@
--- Each turn is a law of the starts so far.
+-- Each turn is a law of the starts so far. Assumes nothing.
 use native.Mathlib.Omega.{arith}
 use Rattle.starts.proofs.Choosing.{choosing_none, choosing_refused, choosing_next, read_within, choosing_end}
 use Rattle.starts.proofs.starts_of.Goals as goal

@@ -1,4 +1,4 @@
--- The strata before the one at hand have their starts.
+-- The strata before the one at hand have their starts. Assumes nothing.
 use Rattle.starts.proofs.Choosing.{Choosing}
 use Rattle.starts.proofs.starts_of.Given as goal
 

@@ -1,4 +1,4 @@
--- What is added and what is to come make the whole.
+-- What is added and what is to come make the whole. Assumes nothing.
 use Rattle.strata.proofs.Counting.{Summing}
 use Rattle.strata.proofs.book_of.Given as goal
 

@@ -1,4 +1,4 @@
--- The counts before the one at hand are taken off.
+-- The counts before the one at hand are taken off. Assumes nothing.
 use Rattle.strata.proofs.Counting.{Taking}
 use Rattle.strata.proofs.counts_add.Given as goal
 

@@ -1,4 +1,4 @@
--- What the checks leave.
+-- What the checks leave. Assumes nothing.
 use Rattle.strata.proofs.Planning.{checks_judged}
 use Rattle.strata.proofs.plan_lent.Goals as goal
 

@@ -1,4 +1,4 @@
--- By the two cases of the answer.
+-- By the two cases of the answer. Assumes nothing.
 use mathlib.Core.Path.{◌∙◌}
 use Rattle.strata.proofs.Planning.{or_none}
 use Rattle.strata.proofs.plan_or_none.Goals as goal

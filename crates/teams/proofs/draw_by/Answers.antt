@@ -1,4 +1,4 @@
--- The refusal of the figures, or the own bits marked at their interval.
+-- The refusal of the figures, or the own bits marked at their interval. Assumes nothing.
 use Rattle.std.proofs.lemmas.Result.{err_from_is_err_and}
 use Rattle.draw.proofs.Answer.{draw_same}
 use Rattle.teams.proofs.Answer.{own_refused, own_drawn}

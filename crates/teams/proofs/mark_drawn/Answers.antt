@@ -1,4 +1,4 @@
--- A line more is written and counted.
+-- A line more is written and counted. Assumes nothing.
 use Rattle.teams.proofs.Marking.{marking_none, marking_more, marking_end}
 use Rattle.teams.proofs.mark_drawn.Goals as goal
 

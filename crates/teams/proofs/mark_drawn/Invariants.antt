@@ -1,4 +1,4 @@
--- The own bits before a line are written and counted.
+-- The own bits before a line are written and counted. Assumes nothing.
 use Rattle.teams.proofs.Marking.{OwnMarking}
 use Rattle.teams.proofs.mark_drawn.Given as goal
 

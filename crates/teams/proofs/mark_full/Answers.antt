@@ -1,4 +1,4 @@
--- A line more is written.
+-- A line more is written. Assumes nothing.
 use Rattle.teams.proofs.Marking.{filling_more, filling_end}
 use Rattle.teams.proofs.mark_full.Goals as goal
 

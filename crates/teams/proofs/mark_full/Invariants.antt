@@ -1,4 +1,4 @@
--- The own bits before a line are written.
+-- The own bits before a line are written. Assumes nothing.
 use Rattle.teams.proofs.Marking.{OwnFilling}
 use Rattle.teams.proofs.mark_full.Given as goal
 

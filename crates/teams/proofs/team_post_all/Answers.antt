@@ -1,4 +1,4 @@
--- 24, or the call by the team's own bits.
+-- 24, or the call by the team's own bits. Assumes nothing.
 use Rattle.std.proofs.Common.{refl}
 use Rattle.std.proofs.lemmas.Result.{err_from_is_err_and}
 use Rattle.teams.proofs.Answer.{team_unknown, team_acting}

@@ -5,6 +5,9 @@ use Rattle.totals.proofs.Shapes.{judged_shape}
 use Rattle.upkeep.proofs.Steps.{room_inside, append_made}
 use Rattle.upkeep.proofs.append.Goals as goal
 
+pub appended-requires : goal.appended-requires
+appended-requires c = omega (arith, (judged_shape c.in_ok-last.ensures).few)
+
 pub bounds-room-count : goal.bounds-room-count
 bounds-room-count c = room_inside _ _ _ _ c.in_ok-last.ensures _ _ c.in_ok-new.ensures
 

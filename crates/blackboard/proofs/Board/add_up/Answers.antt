@@ -1,4 +1,4 @@
--- Each way on and out of the loop is a law of the adding.
+-- Each way on and out of the loop is a law of the adding. Assumes nothing.
 use Rattle.std.proofs.Common.{arith}
 use Rattle.std.proofs.lemmas.Result.{err_from_is_err_and}
 use Rattle.blackboard.proofs.Adding.{adding_none, adding_room, adding_refused, adding_on, adding_small, adding_end}

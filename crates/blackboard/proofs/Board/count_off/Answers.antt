@@ -1,4 +1,4 @@
--- What is counted is no more than the ledger's total.
+-- What is counted is no more than the ledger's total. Assumes nothing.
 use Rattle.std.proofs.Common.{arith}
 use Rattle.blackboard.proofs.Counting.{counting_room, to_further}
 use Rattle.blackboard.proofs.Board.count_off.Goals as goal

@@ -1,4 +1,4 @@
--- The loop over the points stays on the row; a point's counting stops at a line.
+-- The loop over the points stays on the row; a point's counting stops at a line. Assumes nothing.
 use Rattle.std.proofs.Common.{arith}
 use Rattle.blackboard.proofs.Walking.{walking_start, walking_inside, walking_most, walking_some, walking_on, walking_same, walking_end}
 use Rattle.blackboard.proofs.Board.mark_points.Goals as goal

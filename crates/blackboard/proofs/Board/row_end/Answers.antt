@@ -1,4 +1,4 @@
--- What is counted is no more than the ledger's total.
+-- What is counted is no more than the ledger's total. Assumes nothing.
 use Rattle.std.proofs.Common.{arith}
 use Rattle.blackboard.proofs.Counting.{counting_on, counting_room, counting_end}
 use Rattle.blackboard.proofs.Board.row_end.Goals as goal

@@ -1,4 +1,4 @@
--- A mark more, by whether it is 1.
+-- A mark more, by whether it is 1. Assumes nothing.
 use Rattle.std.proofs.Common.{arith}
 use Rattle.blackboard.proofs.Drawn.{drawn_one, drawn_other, drawn_end}
 use Rattle.blackboard.proofs.points.drawn_lines.Goals as goal

@@ -1,4 +1,4 @@
--- The sums of a kind, added, are an amount with a sign.
+-- The sums of a kind, added, are an amount with a sign. Assumes nothing.
 use Rattle.blackboard.proofs.OneLine.{sums_fit}
 use Rattle.blackboard.proofs.sums.projection_of.Goals as goal
 

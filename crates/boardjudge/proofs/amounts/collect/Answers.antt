@@ -1,4 +1,4 @@
--- Each way on and out of the loop is a law of the collecting.
+-- Each way on and out of the loop is a law of the collecting. Assumes nothing.
 use Rattle.std.proofs.Common.{arith}
 use Rattle.boardjudge.proofs.Collecting.{collecting_none, collecting_few, collecting_fits, collecting_more, collecting_end}
 use Rattle.boardjudge.proofs.amounts.collect.Goals as goal

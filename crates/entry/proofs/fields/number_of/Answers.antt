@@ -7,6 +7,12 @@ use Rattle.entry.proofs.fields.number_of.Goals.{then-byte-lt48-via-then-byte-lt4
 pub loop-byte-init : goal.loop-byte-init
 loop-byte-init c = none_counted _
 
+pub loop-byte-preserved : goal.loop-byte-preserved
+loop-byte-preserved c = search (rules, one_digit)
+
+pub returns : goal.returns
+returns c = search (rules, all_counted)
+
 pub returns-then-byte-lt48 : goal.returns-then-byte-lt48
 returns-then-byte-lt48 c =
     elim c.then-byte-lt48.branch [
@@ -16,9 +22,3 @@ returns-then-byte-lt48 c =
 
 pub returns-then-value-digit : goal.returns-then-value-digit
 returns-then-value-digit c = search (rules, too_large)
-
-pub loop-byte-preserved : goal.loop-byte-preserved
-loop-byte-preserved c = search (rules, one_digit)
-
-pub returns : goal.returns
-returns c = search (rules, all_counted)

@@ -1,4 +1,4 @@
--- The refusal of the pair's line, or the error stored there.
+-- The refusal of the pair's line, or the error stored there. Assumes nothing.
 use Rattle.std.proofs.Common.{refl, ◌∙◌}
 use Rattle.std.proofs.lemmas.Result.{err_from_is_err_and}
 use native.Mathlib.Omega.{arith}

@@ -1,4 +1,4 @@
--- Each way on and out of the loop is a law of the posting.
+-- Each way on and out of the loop is a law of the posting. Assumes nothing.
 use Rattle.std.proofs.Common.{refl}
 use Rattle.std.proofs.lemmas.Result.{err_from_is_err_and}
 use native.Mathlib.Omega.{arith}

@@ -1,4 +1,4 @@
--- The errors so far, with the pairs to come, come to what all pairs come to.
+-- The errors so far, with the pairs to come, come to what all pairs come to. Assumes nothing.
 use Rattle.bits.specs.Own.{bits_of}
 use Rattle.findings.proofs.Pairs.{Posting}
 use Rattle.findings.proofs.Marked.post_pairs.Given as goal

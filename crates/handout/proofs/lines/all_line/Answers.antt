@@ -1,4 +1,4 @@
--- Its parts, one after the other.
+-- Its parts, one after the other. Assumes nothing.
 use borrow.Author.Rules.{rules}
 use Rattle.handout.proofs.Written.{all_written}
 use Rattle.handout.proofs.Short.{all_short}

@@ -1,4 +1,4 @@
--- The lines, one after the other, and no more bytes than they take at most.
+-- The lines, one after the other, and no more bytes than they take at most. Assumes nothing.
 use Rattle.handout.proofs.Composing.{shows_few, answers_written}
 use Rattle.handout.proofs.lines.answers_text.Goals as goal
 

@@ -1,4 +1,4 @@
--- The size of the error at hand decides.
+-- The size of the error at hand decides. Assumes nothing.
 use Rattle.handout.proofs.Seeking.{seeking_found, seeking_more, seeking_end}
 use Rattle.handout.proofs.lines.any_error.Goals as goal
 

@@ -1,4 +1,4 @@
--- No line before the one at hand has an error.
+-- No line before the one at hand has an error. Assumes nothing.
 use Rattle.handout.proofs.Seeking.{Seeking}
 use Rattle.handout.proofs.lines.any_error.Given as goal
 

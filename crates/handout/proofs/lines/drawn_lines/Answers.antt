@@ -1,4 +1,4 @@
--- Each turn is a law of the lines so far.
+-- Each turn is a law of the lines so far. Assumes nothing.
 use Rattle.handout.proofs.Loops.{drawing_asks, drawing_more, drawing_all}
 use Rattle.handout.proofs.lines.drawn_lines.Goals as goal
 

@@ -1,4 +1,4 @@
--- The sums where a line has an error, and else nothing.
+-- The sums where a line has an error, and else nothing. Assumes nothing.
 use Rattle.handout.proofs.Composing.{errors_some, errors_none}
 use Rattle.handout.proofs.lines.errors_text.Goals as goal
 

@@ -1,4 +1,4 @@
--- It is short.
+-- It is short. Assumes nothing.
 use borrow.Author.Rules.{rules}
 use Rattle.handout.proofs.Short.{plan_short}
 use Rattle.handout.proofs.lines.plan_line.Goals as goal

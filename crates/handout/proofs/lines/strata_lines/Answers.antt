@@ -1,4 +1,4 @@
--- Each turn is a law of the lines so far.
+-- Each turn is a law of the lines so far. Assumes nothing.
 use Rattle.handout.proofs.Loops.{stratum_fits, stratifying_more, stratifying_all, stratifying_short}
 use Rattle.handout.proofs.lines.strata_lines.Goals as goal
 

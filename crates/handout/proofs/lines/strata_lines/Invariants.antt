@@ -1,4 +1,4 @@
--- The lines of the strata before the one at hand are written.
+-- The lines of the strata before the one at hand are written. Assumes nothing.
 use Rattle.handout.proofs.Loops.{Stratifying}
 use Rattle.handout.proofs.lines.strata_lines.Given as goal
 

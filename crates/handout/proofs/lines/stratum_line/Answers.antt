@@ -1,4 +1,4 @@
--- Its figures are small, so it is short.
+-- Its figures are small, so it is short. Assumes nothing.
 use borrow.Author.Rules.{rules}
 use Rattle.handout.proofs.Written.{stratum_written}
 use Rattle.handout.proofs.Short.{SmallRow, stratum_short}

@@ -1,4 +1,4 @@
--- Its figures are small, so it is short.
+-- Its figures are small, so it is short. Assumes nothing.
 use borrow.Author.Rules.{rules}
 use Rattle.handout.proofs.Short.{SmallSums, sums_short}
 use Rattle.handout.proofs.lines.sums_line.Goals as goal

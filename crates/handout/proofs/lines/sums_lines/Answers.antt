@@ -1,4 +1,4 @@
--- Each turn is a law of the sums so far.
+-- Each turn is a law of the sums so far. Assumes nothing.
 use Rattle.handout.proofs.Loops.{summing_none, summing_more, summing_all, summing_short}
 use Rattle.handout.proofs.lines.sums_lines.Goals as goal
 

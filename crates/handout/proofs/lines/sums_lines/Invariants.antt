@@ -1,4 +1,4 @@
--- The sums of the strata before the one at hand are written.
+-- The sums of the strata before the one at hand are written. Assumes nothing.
 use Rattle.handout.proofs.Loops.{Summing}
 use Rattle.handout.proofs.lines.sums_lines.Given as goal
 

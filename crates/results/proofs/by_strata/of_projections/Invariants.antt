@@ -1,4 +1,4 @@
--- The rows before h are shown.
+-- The rows before h are shown. Assumes nothing.
 use Rattle.results.specs.Strata.{stratum_projection_seen}
 use Rattle.results.proofs.Rows.{Showing}
 use Rattle.results.proofs.by_strata.of_projections.Given as goal

@@ -1,4 +1,4 @@
--- A cell is a place of the counts.
+-- A cell is a place of the counts. Assumes nothing.
 use Rattle.std.proofs.Common.{rules}
 use Rattle.season.proofs.Cells.{cell_fits, read_there}
 use Rattle.season.proofs.Tally.count.Goals as goal

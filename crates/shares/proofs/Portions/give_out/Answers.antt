@@ -1,4 +1,4 @@
--- One draw more is given.
+-- One draw more is given. Assumes nothing.
 use mathlib.Core.Path.{◌≡◌}
 use Prim.Native.Nat.{◌+◌, ◌-◌}
 use native.Mathlib.Omega.{arith}

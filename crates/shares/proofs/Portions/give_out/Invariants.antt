@@ -1,4 +1,4 @@
--- Giving out what is left from here gives what giving out the whole does.
+-- Giving out what is left from here gives what giving out the whole does. Assumes nothing.
 use Prim.Native.Nat.{◌-◌}
 use Rattle.shares.proofs.Loops.{Handing}
 use Rattle.shares.proofs.Portions.give_out.Given as goal

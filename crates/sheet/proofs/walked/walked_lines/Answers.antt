@@ -1,4 +1,4 @@
--- Each way on and out of the loop is a law of the text by the marks.
+-- Each way on and out of the loop is a law of the text by the marks. Assumes nothing.
 use Rattle.std.proofs.Common.{arith, rules}
 use Rattle.sheet.proofs.ByMarks.{walked_first, walked_fits, walked_more, walked_end}
 use Rattle.sheet.proofs.walked.walked_lines.Goals as goal

@@ -1,4 +1,4 @@
--- The next book value is written.
+-- The next book value is written. Assumes nothing.
 use Rattle.strata.proofs.Booking.{booking_next}
 use Rattle.strata.proofs.Strata.books.Goals as goal
 

@@ -1,4 +1,4 @@
--- The book values of the strata before the one at hand are written.
+-- The book values of the strata before the one at hand are written. Assumes nothing.
 use Rattle.strata.proofs.Booking.{Booking}
 use Rattle.strata.proofs.Strata.books.Given as goal
 

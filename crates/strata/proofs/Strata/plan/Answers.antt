@@ -1,4 +1,4 @@
--- 23, or the rows at the shares.
+-- 23, or the rows at the shares. Assumes nothing.
 use native.Mathlib.Omega.{arith}
 use Rattle.strata.proofs.Planning.{few_promised, shareable, sharing, rows_promised}
 use Rattle.strata.proofs.Strata.plan.Goals as goal

@@ -1,4 +1,4 @@
--- Each turn is a law of the rows so far.
+-- Each turn is a law of the rows so far. Assumes nothing.
 use Rattle.strata.proofs.Booking.{rowing_none, rowing_book, rowing_next}
 use Rattle.strata.proofs.Strata.rows.Goals as goal
 

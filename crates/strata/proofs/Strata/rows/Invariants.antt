@@ -1,4 +1,4 @@
--- The rows of the strata before the one at hand are written.
+-- The rows of the strata before the one at hand are written. Assumes nothing.
 use Rattle.strata.proofs.Booking.{Rowing}
 use Rattle.strata.proofs.Strata.rows.Given as goal
 

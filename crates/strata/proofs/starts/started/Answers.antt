@@ -1,4 +1,4 @@
--- The refusal of the plan, 11, or the plan.
+-- The refusal of the plan, 11, or the plan. Assumes nothing.
 use Rattle.std.proofs.lemmas.Result.{err_from_is_err_and}
 use Rattle.strata.proofs.Starting.{starts_few, start_refused, starts_good}
 use Rattle.strata.proofs.starts.started.Goals as goal

@@ -1,4 +1,4 @@
--- Each start before the one at hand fits.
+-- Each start before the one at hand fits. Assumes nothing.
 use Rattle.strata.proofs.Starting.{Fitting}
 use Rattle.strata.proofs.starts.starts_fit.Given as goal
 

@@ -1,4 +1,4 @@
--- The refusals before the marks, and then the marks of each stratum.
+-- The refusals before the marks, and then the marks of each stratum. Assumes nothing.
 use Rattle.std.proofs.lemmas.Result.{err_from_is_err_and}
 use Rattle.stratified.proofs.Underway.{underway}
 use Rattle.stratified.proofs.Marking.{strata_refused, strata_drawn}

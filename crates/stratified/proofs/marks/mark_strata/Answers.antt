@@ -1,4 +1,4 @@
--- Each turn is a law of the marks so far.
+-- Each turn is a law of the marks so far. Assumes nothing.
 use Rattle.stratified.proofs.Marking.{marking_markable, marking_same, marking_fits, marking_next, marking_end}
 use Rattle.stratified.proofs.marks.mark_strata.Goals as goal
 

@@ -1,4 +1,4 @@
--- The strata before the one at hand are marked.
+-- The strata before the one at hand are marked. Assumes nothing.
 use Rattle.stratified.proofs.Marking.{Marking}
 use Rattle.stratified.proofs.marks.mark_strata.Given as goal
 

@@ -1,4 +1,4 @@
--- Each turn is a law of the walk so far.
+-- Each turn is a law of the walk so far. Assumes nothing.
 use Rattle.std.proofs.lemmas.Result.{err_from_is_err_and}
 use Rattle.stratified.proofs.Walking.{walking_none, walking_asks, walking_refused, walking_next, walking_end}
 use Rattle.stratified.proofs.projection.project_rows.Goals as goal

@@ -1,4 +1,4 @@
--- The rows of the strata before the one at hand are written.
+-- The rows of the strata before the one at hand are written. Assumes nothing.
 use Rattle.stratified.proofs.Walking.{Walking}
 use Rattle.stratified.proofs.projection.project_rows.Given as goal
 

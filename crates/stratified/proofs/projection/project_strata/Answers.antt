@@ -1,4 +1,4 @@
--- The refusals before the lines, and then the strata.
+-- The refusals before the lines, and then the strata. Assumes nothing.
 use Rattle.std.proofs.lemmas.Result.{err_from_is_err_and}
 use Rattle.stratified.proofs.Underway.{underway}
 use Rattle.stratified.proofs.Totalling.{strata_refused, walk_refused, strata_projected}

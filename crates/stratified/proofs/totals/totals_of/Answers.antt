@@ -1,4 +1,4 @@
--- The next row is added.
+-- The next row is added. Assumes nothing.
 use Rattle.stratified.proofs.Totalling.{totalling_next, totalling_end}
 use Rattle.stratified.proofs.totals.totals_of.Goals as goal
 

@@ -1,4 +1,4 @@
--- The rows before the one at hand are added.
+-- The rows before the one at hand are added. Assumes nothing.
 use Rattle.stratified.proofs.Totalling.{Totalling}
 use Rattle.stratified.proofs.totals.totals_of.Given as goal
 

@@ -1,4 +1,4 @@
--- Each kind's sum fits an amount with a sign.
+-- Each kind's sum fits an amount with a sign. Assumes nothing.
 use Rattle.stratified.proofs.Totalling.{over_signed, under_signed}
 use Rattle.stratified.proofs.totals.with_totals.Goals as goal
 

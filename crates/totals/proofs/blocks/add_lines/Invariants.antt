@@ -1,4 +1,4 @@
--- The total and what is left of the block are its total.
+-- The total and what is left of the block are its total. Assumes nothing.
 use Rattle.totals.proofs.Loops.{Adding}
 use Rattle.totals.proofs.blocks.add_lines.Given as goal
 

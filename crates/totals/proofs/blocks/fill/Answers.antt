@@ -7,4 +7,4 @@ pub loop-block-preserved : goal.loop-block-preserved
 loop-block-preserved c = building_more c.loop-block.invariant (omega (arith, c.loop-block.invariant.long)) c.add_lines.ensures
 
 pub returns : goal.returns
-returns c = building_last c.loop-block.invariant _ _ (omega (arith, c.loop-block.invariant.long)) c.requires.fits
+returns c = building_last c.loop-block.invariant _ c.args.total (omega (arith, c.loop-block.invariant.long)) c.requires.fits

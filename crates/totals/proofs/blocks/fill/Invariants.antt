@@ -1,4 +1,4 @@
--- The figures before the block are written.
+-- The figures before the block are written. Assumes nothing.
 use Rattle.totals.proofs.Loops.{Building}
 use Rattle.totals.proofs.blocks.fill.Given as goal
 

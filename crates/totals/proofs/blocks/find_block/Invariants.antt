@@ -1,4 +1,4 @@
--- From here on what is found is what is found from the first block on.
+-- From here on what is found is what is found from the first block on. Assumes nothing.
 use Rattle.totals.proofs.Loops.{Going}
 use Rattle.totals.proofs.blocks.find_block.Given as goal
 

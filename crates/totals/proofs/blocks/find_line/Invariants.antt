@@ -1,4 +1,4 @@
--- From here on what is found is what is found from the block's first line on.
+-- From here on what is found is what is found from the block's first line on. Assumes nothing.
 use Rattle.totals.proofs.Loops.{Looking}
 use Rattle.totals.proofs.blocks.find_line.Given as goal
 

@@ -1,4 +1,4 @@
--- From here on what is found is what is found in the whole.
+-- From here on what is found is what is found in the whole. Assumes nothing.
 use Rattle.totals.proofs.Loops.{Comparing}
 use Rattle.totals.proofs.blocks.first_wrong.Given as goal
 

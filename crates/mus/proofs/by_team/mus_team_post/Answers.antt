@@ -1,0 +1,6 @@
+-- `mus::by_team::mus_team_post` meets its contract: what it returns shows the operation's own answer. Assumes nothing.
+use borrow.Author.Rules.{rules}
+use Rattle.mus.proofs.by_team.mus_team_post.Goals as goal
+
+pub returns : goal.returns
+returns c = search rules
